@@ -1,0 +1,47 @@
+-- Quotient and remainder by 100,000,000 give the count back, those by 1,000,000 the energy; the count times the step is
+-- the energy rounded down. The smallest step keeps the largest energy's wrap within a word.
+use mathlib.Core.Path.{_≡_, refl, ap, _∙_}
+use mathlib.Core.Bool.{Bool, true, false, _&&_, cond}
+use Prim.Native.Nat.{ℕ, _+_, _*_, _/_, _%_, _≤_, _<_}
+use native.Mathlib.Nat.{div-add-mod', div-lt-iff-lt-mul, div-mul-le-self, lt-div-mul-add, mul-le-mul-left}
+use native.Mathlib.Omega.{arith}
+use lib.Dec.{leb}
+use borrow.Author.Tests.{le-leb}
+use Rattle.ratio.specs.declared.Ratios.{Ratios}
+use Rattle.ratio.specs.declared.WattHours.{WattHours}
+use Rattle.ratio.specs.declared.Joined.the-variants.{Energy}
+use Rattle.ratio.specs.Ratios.{ratiosOk, tOf}
+use Rattle.ratio.specs.Energies.{stepOf, countOf, registerOf, wrapOf, lowOf, highOf, energyOf, joinOf, joinHalvesOf, topWh, roundedOf, CountsFit, JoinSplit}
+use Rattle.ratio.proofs.Steps.{step-laws}
+
+wrap : (t : ℕ) (e : WattHours) → e .0 ≤ topWh → wrapOf t e < 65536
+wrap t e h =
+    let count : countOf t e < 6553600000000 = div-lt-iff-lt-mul {k = stepOf t} (omega (arith, step-laws .least t)) .1
+          (omega (arith, mul-le-mul-left 6553600000000 (step-laws .least t))) in
+    omega arith
+
+pub counts-fit : CountsFit
+counts-fit = record {
+    register = λ t e. omega arith;
+    wrap = wrap;
+    low = λ e. omega arith;
+    high = λ e h. omega arith;
+  }
+
+counts : (r : Ratios) (e : WattHours) → ratiosOk r ≡ true → joinOf r (registerOf (tOf r) e) (wrapOf (tOf r) e) ≡ Energy (roundedOf (tOf r) e)
+unfolding joinOf
+counts r e ok =
+    simp (ok, le-leb _ _ (counts-fit .register (tOf r) e), div-add-mod' (countOf (tOf r) e) 100000000)
+
+halves : (e : WattHours) → e .0 ≤ topWh → joinHalvesOf (lowOf e) (highOf e) ≡ Energy e
+unfolding joinHalvesOf
+halves e h =
+    simp (le-leb _ _ (counts-fit .low e), le-leb _ _ (counts-fit .high e h), div-add-mod' (e .0) 1000000)
+
+pub join-split : JoinSplit
+join-split = record {
+    counts = counts;
+    halves = halves;
+    above = λ t e. div-mul-le-self (e .0) (stepOf t);
+    below = λ t e. lt-div-mul-add {a = e .0} {b = stepOf t} (omega (arith, step-laws .least t));
+  }

@@ -1,0 +1,89 @@
+-- Paper 01, "Steps of the registers": the energy step, count, register and wrap, Low and High; and "Collector": joining.
+-- A register count is not yet an energy: `Count` and `WattHours` are kept apart until a step is applied.
+use mathlib.Core.Path.{_≡_}
+use Prim.Native.Nat.{ℕ, _+_, _*_, _/_, _%_, _≤_, _<_}
+use mathlib.Core.Bool.{Bool, true, false, _&&_, cond}
+use lib.Dec.{leb, ltb}
+use Rattle.refusal.specs.declared.Refusal.the-variants.{RatioOutOfLimits, JoinPastTop}
+use Rattle.ratio.specs.declared.Ratios.{Ratios}
+use Rattle.ratio.specs.declared.Count.{Count}
+use Rattle.ratio.specs.declared.WattHours.{WattHours}
+use Rattle.ratio.specs.declared.Joined.{Joined}
+use Rattle.ratio.specs.declared.Joined.the-variants.{Energy, Refused}
+use Rattle.ratio.specs.Ratios.{ratiosOk, tOf}
+
+-- the table of T and the energy step, Wh
+unfoldable pub stepOf : ℕ → ℕ
+stepOf t =
+    cond (ltb t 100) 10
+    (cond (ltb t 1000) 100
+    (cond (ltb t 10000) 1000
+    (cond (ltb t 100000) 10000
+    100000)))
+
+-- the count is Wh divided by the step, rounded down
+abbrev pub countOf : ℕ → WattHours → ℕ
+countOf t e = e .0 / stepOf t
+
+-- the register is the count modulo 100,000,000
+abbrev pub registerOf : ℕ → WattHours → Count
+registerOf t e = record { 0 = countOf t e % 100000000 }
+
+-- the wrap word is the count divided by 100,000,000, rounded down
+abbrev pub wrapOf : ℕ → WattHours → ℕ
+wrapOf t e = countOf t e / 100000000
+
+-- Low is Wh modulo 1,000,000
+abbrev pub lowOf : WattHours → ℕ
+lowOf e = e .0 % 1000000
+
+-- High is Wh divided by 1,000,000, rounded down
+abbrev pub highOf : WattHours → ℕ
+highOf e = e .0 / 1000000
+
+-- a step turns a count into Wh
+abbrev pub energyOf : ℕ → ℕ → WattHours
+energyOf t count = record { 0 = count * stepOf t }
+
+-- joins count and wrap: 3, then 14, else (wrap × 100,000,000 + count) × step
+unfoldable pub joinOf : Ratios → Count → ℕ → Joined
+joinOf r c wrap =
+    cond (ratiosOk r)
+    (cond (leb (c .0) 99999999)
+    (Energy (energyOf (tOf r) (wrap * 100000000 + c .0)))
+    (Refused JoinPastTop))
+    (Refused RatioOutOfLimits)
+
+-- joins Low and High: 14, else High × 1,000,000 + Low
+unfoldable pub joinHalvesOf : ℕ → ℕ → Joined
+joinHalvesOf low high =
+    cond (leb low 999999 && leb high 65535999)
+    (Energy (record { 0 = high * 1000000 + low }))
+    (Refused JoinPastTop)
+
+-- the top of an energy, in Wh
+abbrev pub topWh : ℕ
+topWh = 65535999999999
+
+-- STATEMENT: what callers may know of the step
+pub record StepLaws : Type 0 where
+  pub least : (t : ℕ) → 10 ≤ stepOf t
+  pub most : (t : ℕ) → stepOf t ≤ 100000
+
+-- STATEMENT: for every energy up to the top, register, wrap, Low and High fit their words and are never refused in a join
+pub record CountsFit : Type 0 where
+  pub register : (t : ℕ) (e : WattHours) → registerOf t e .0 ≤ 99999999
+  pub wrap : (t : ℕ) (e : WattHours) → e .0 ≤ topWh → wrapOf t e < 65536
+  pub low : (e : WattHours) → lowOf e ≤ 999999
+  pub high : (e : WattHours) → e .0 ≤ topWh → highOf e ≤ 65535999
+
+-- an energy rounded down to the step
+abbrev pub roundedOf : ℕ → WattHours → WattHours
+roundedOf t e = energyOf t (countOf t e)
+
+-- STATEMENT: joining register and wrap gives the energy rounded down to the step, and Low and High the energy itself
+pub record JoinSplit : Type 0 where
+  pub counts : (r : Ratios) (e : WattHours) → ratiosOk r ≡ true → joinOf r (registerOf (tOf r) e) (wrapOf (tOf r) e) ≡ Energy (roundedOf (tOf r) e)
+  pub halves : (e : WattHours) → e .0 ≤ topWh → joinHalvesOf (lowOf e) (highOf e) ≡ Energy e
+  pub above : (t : ℕ) (e : WattHours) → roundedOf t e .0 ≤ e .0
+  pub below : (t : ℕ) (e : WattHours) → e .0 < roundedOf t e .0 + stepOf t

@@ -1,0 +1,3 @@
+pub mod Ratios
+pub mod Powers
+pub mod Energies

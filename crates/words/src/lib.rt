@@ -1,0 +1,55 @@
+// Words on the line: two bytes, upper byte first; a long is two words, upper word first (paper 01, "The directory").
+// The callers hold the place and the width within the buffer, so nothing is tested again here.
+ghost use mathlib.Core.Path.{_≡_};
+ghost use Prim.Native.Nat.{_+_, _*_, _≤_, _<_};
+ghost use lib.ListN.{length};
+ghost use lib.Seq.{sets};
+ghost use Rattle.words.specs.Words.{word, sent, wordAt, valueAt};
+
+pub fn put_word(buf: &mut [u8], at: usize, w: u16)
+    requires { ⌜ at + 2 ≤ length (now buf) ⌝ }
+    ensures { λ _. ⌜ now (buf .exit) ≡ sets (now (buf .entry)) at (word w) ⌝ }
+{
+    buf[at] = (w / 256) as u8;
+    buf[at + 1] = (w % 256) as u8;
+}
+
+// One word of v, its lower, or both.
+pub fn put(buf: &mut [u8], at: usize, words: usize, v: u32)
+    requires { ⌜ (at + 2 * words ≤ length (now buf)) × ((1 ≤ words) × (words ≤ 2)) ⌝ }
+    ensures { λ _. ⌜ now (buf .exit) ≡ sets (now (buf .entry)) at (sent words v) ⌝ }
+{
+    let lower = (v % 65536) as u16;
+    if words == 1 {
+        put_word(buf, at, lower);
+    } else {
+        put_word(buf, at, (v / 65536) as u16);
+        put_word(buf, at + 2, lower);
+    }
+}
+
+fn wide(b: u8) -> u16
+    ensures { λ r. ⌜ (r ≡ b) × (r < 256) ⌝ }
+{
+    b as u16
+}
+
+pub fn word_at(bytes: &[u8], at: usize) -> u16
+    requires { ⌜ at + 2 ≤ length (now bytes) ⌝ }
+    ensures { λ r. ⌜ r ≡ wordAt (now (bytes .entry)) at ⌝ }
+{
+    wide(bytes[at]) * 256 + wide(bytes[at + 1])
+}
+
+// The value of one word, or of two.
+pub fn value_at(bytes: &[u8], at: usize, words: usize) -> u32
+    requires { ⌜ (at + 2 * words ≤ length (now bytes)) × ((1 ≤ words) × (words ≤ 2)) ⌝ }
+    ensures { λ r. ⌜ r ≡ valueAt words (now (bytes .entry)) at ⌝ }
+{
+    let first = word_at(bytes, at) as u32;
+    if words == 1 {
+        first
+    } else {
+        first * 65536 + word_at(bytes, at + 2) as u32
+    }
+}
