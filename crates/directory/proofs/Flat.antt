@@ -1,0 +1,46 @@
+-- A flat table as items: dropping four numbers drops an item, so the item of index i stands at 4 × i.
+use mathlib.Core.Path.{_≡_, refl, sym, ap, _∙_}
+use mathlib.Core.List.{List, [], _∷_}
+use Prim.Native.Nat.{ℕ, zero, suc, _+_, _*_, _≤_, _<_}
+use native.Mathlib.Nat.{add-zero}
+use native.Mathlib.Omega.{arith}
+use lib.ListN.{length, getD, drop}
+use lib.Seq.{drop-cons, getD-drop}
+use Rattle.directory.specs.declared.Item.{Item}
+use Rattle.directory.specs.Item.{item, items, none}
+
+drop-step : (l : List ℕ) (n m : ℕ) → n < length l → suc n ≡ m → drop n l ≡ getD l n 0 ∷ drop m l
+drop-step l n m h e = drop-cons l n 0 h ∙ ap (λ (k : ℕ). getD l n 0 ∷ drop k l) e
+
+drop-four : (l : List ℕ) (at : ℕ) → at + 4 ≤ length l → drop at l ≡ getD l at 0 ∷ getD l (at + 1) 0 ∷ getD l (at + 2) 0 ∷ getD l (at + 3) 0 ∷ drop (at + 4) l
+drop-four l at h =
+    cc
+    (drop-step l at (at + 1) (omega arith) (omega arith), drop-step l (at + 1) (at + 2) (omega arith) (omega arith), drop-step l (at + 2) (at + 3) (omega arith) (omega arith), drop-step l (at + 3) (at + 4) (omega arith) (omega arith))
+
+items-skip : (l : List ℕ) (i : ℕ) → 4 * i ≤ length l → drop i (items l) ≡ items (drop (4 * i) l)
+unfolding items
+items-skip l zero h = refl
+items-skip (a ∷ f ∷ w ∷ q ∷ l) (suc i) h =
+    let e : 4 * suc i ≡ suc (suc (suc (suc (4 * i)))) = omega arith in
+    rw e (items-skip l i (omega arith))
+items-skip (a ∷ f ∷ w ∷ []) (suc i) h = let z : ⊥ = omega arith in absurd z
+items-skip (a ∷ f ∷ []) (suc i) h = let z : ⊥ = omega arith in absurd z
+items-skip (a ∷ []) (suc i) h = let z : ⊥ = omega arith in absurd z
+items-skip [] (suc i) h = let z : ⊥ = omega arith in absurd z
+
+-- the item of index i, number by number
+pub item-of : (l : List ℕ) (i : ℕ) → 4 * i + 4 ≤ length l → getD (items l) i none ≡ item (getD l (4 * i) 0) (getD l (4 * i + 1) 0) (getD l (4 * i + 2) 0) (getD l (4 * i + 3) 0)
+unfolding items
+item-of l i h =
+    let front : getD (drop i (items l)) 0 none ≡ getD (items l) i none = rw getD-drop (ap (λ (k : ℕ). getD (items l) k none) (add-zero i)) in
+    sym front ∙ ap (λ (its : List Item). getD its 0 none) (items-skip l i (omega arith) ∙ ap items (drop-four l (4 * i) h))
+
+-- a table of 4 × n numbers has n items
+pub items-count : (l : List ℕ) (n : ℕ) → 4 * n ≤ length l → n ≤ length (items l)
+unfolding items
+items-count l zero h = omega arith
+items-count (a ∷ f ∷ w ∷ q ∷ l) (suc n) h = omega (arith, items-count l n (omega arith))
+items-count (a ∷ f ∷ w ∷ []) (suc n) h = omega arith
+items-count (a ∷ f ∷ []) (suc n) h = omega arith
+items-count (a ∷ []) (suc n) h = omega arith
+items-count [] (suc n) h = omega arith

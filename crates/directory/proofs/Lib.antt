@@ -1,0 +1,6 @@
+pub mod Flat
+pub mod Order
+pub mod Views
+pub mod Finds
+pub mod Runs
+pub mod Rules

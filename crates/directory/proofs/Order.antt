@@ -1,0 +1,74 @@
+-- The computed tests as rules at each item: of two items the later starts where the earlier ends, or after; and each
+-- sends one word or two. They hold of any directory, and of a view of its first items.
+use mathlib.Core.Path.{_≡_}
+use mathlib.Core.Bool.{Bool, true, false, _&&_}
+use mathlib.Core.List.{List, [], _∷_}
+use Prim.Native.Nat.{ℕ, zero, suc, _+_, _≤_, _<_}
+use native.Mathlib.Omega.{arith}
+use lib.Dec.{T, leb, ltb, leb→le, ltb→lt}
+use lib.ListN.{length, getD, take}
+use Rattle.directory.specs.declared.Item.{Item}
+use Rattle.directory.specs.Item.{none, ends}
+use Rattle.directory.specs.Order.{ascends, every, narrow, ruled}
+
+-- a test of two parts
+pub left : (a b : Bool) → T (a && b) → T a
+left true b t = tt
+left false b t = t
+
+pub right : (a b : Bool) → T (a && b) → T b
+right true b t = t
+right false b t = absurd t
+
+-- ascending, without overlap, as the laws use it
+pub data Ascends : ℕ → List Item → Type 0 where
+  done : {from : ℕ} → Ascends from []
+  next : {from : ℕ} {it : Item} {its : List Item} → from ≤ it .start → 0 < it .fills → Ascends (ends it) its → Ascends from (it ∷ its)
+
+ascending : (from : ℕ) (its : List Item) → T (ascends from its) → Ascends from its
+unfolding ascends
+ascending from [] t = done
+ascending from (it ∷ its) t =
+    let u = right (leb from (it .start)) _ t in
+    next (leb→le _ _ (left (leb from (it .start)) _ t)) (ltb→lt _ _ (left (ltb 0 (it .fills)) _ u)) (ascending _ its (right (ltb 0 (it .fills)) _ u))
+
+pub ascends-take : {from : ℕ} {its : List Item} (n : ℕ) → Ascends from its → Ascends from (take n its)
+ascends-take zero a = done
+ascends-take (suc n) done = done
+ascends-take (suc n) (next l f a) = next l f (ascends-take n a)
+
+-- each item starts at `from` or after
+pub all-from : {from : ℕ} {its : List Item} → Ascends from its → (k : ℕ) → k < length its → from ≤ getD its k none .start
+all-from done k h = omega arith
+all-from (next l f a) zero h = l
+all-from (next l f a) (suc k) h = omega (arith, all-from a k (omega arith))
+
+-- THE RULE
+pub apart : {from : ℕ} {its : List Item} → Ascends from its → (i j : ℕ) → i < j → j < length its → ends (getD its i none) ≤ getD its j none .start
+apart done i j h k = omega arith
+apart (next l f a) i zero h k = omega arith
+apart (next l f a) zero (suc j) h k = all-from a j (omega arith)
+apart (next l f a) (suc i) (suc j) h k = apart a i j (omega arith) (omega arith)
+
+-- a test of each item, at one of them
+pub every-at : (test : Item → Bool) (its : List Item) → T (every test its) → (k : ℕ) → k < length its → T (test (getD its k none))
+unfolding every
+every-at test [] t k h = let z : ⊥ = omega arith in absurd z
+every-at test (it ∷ its) t zero h = left (test it) _ t
+every-at test (it ∷ its) t (suc k) h = every-at test its (right (test it) _ t) k (omega arith)
+
+-- one word or two
+pub record Narrow (it : Item) : Type 0 where
+  pub some : 1 ≤ it .words
+  pub few : it .words ≤ 2
+
+pub is-narrow : (it : Item) → T (narrow it) → Narrow it
+is-narrow it t =
+    record { some = leb→le _ _ (left (leb 1 (it .words)) _ t); few = leb→le _ _ (right (leb 1 (it .words)) _ t) }
+
+-- the two rules of a directory
+pub ruled-ascends : (its : List Item) → T (ruled its) → Ascends 0 its
+ruled-ascends its t = ascending 0 its (left (ascends 0 its) _ t)
+
+pub ruled-narrow : (its : List Item) → T (ruled its) → (k : ℕ) → k < length its → Narrow (getD its k none)
+ruled-narrow its t k h = is-narrow _ (every-at narrow its (right (ascends 0 its) _ t) k h)

@@ -1,0 +1,40 @@
+-- The tests computed over the whole table, and the laws over any directory that turn them into the rule at each item.
+use mathlib.Core.Path.{_≡_, refl}
+use mathlib.Core.Bool.{Bool, true, false}
+use lib.Dec.{T}
+use lib.ListN.{length}
+use Rattle.directory.specs.Table.{directory}
+use Rattle.directory.specs.Order.{ascends, every, ruled, shaped}
+use Rattle.directory.specs.Rules.{DirectoryRules, placesOf, EnergyPlaces}
+use Rattle.directory.proofs.Order.{every-at, apart, ruled-ascends}
+use Rattle.directory.proofs.Finds.{found-here, found-starts}
+
+-- THE TEST of order: ascending, without overlap, one word or two
+pub directory-ruled : T (ruled directory)
+unfolding ascends every directory
+directory-ruled = tt
+
+directory-shaped : T (every shaped directory)
+unfolding every directory
+directory-shaped = tt
+
+passes : (b : Bool) → T b → b ≡ true
+passes true t = refl
+passes false t = absurd t
+
+directory-count : length directory ≡ 142
+unfolding directory
+directory-count = refl
+
+pub directory-rules : DirectoryRules
+directory-rules = record {
+    count = directory-count;
+    apart = apart (ruled-ascends directory directory-ruled);
+    shapes = λ i h. passes _ (every-at shaped directory directory-shaped i h);
+    found = λ i h. found-here (ruled-ascends directory directory-ruled) _ i h refl;
+    starts = found-starts directory;
+  }
+
+pub energy-places : EnergyPlaces
+unfolding placesOf directory
+energy-places = record { at-posEa = refl; at-posEr = refl; at-negEa = refl; at-negEr = refl }

@@ -1,0 +1,22 @@
+-- The flat table, read four numbers at a time, is the directory.
+use native.Mathlib.Omega.{arith}
+use Rattle.directory.specs.Item.{items}
+use Rattle.directory.specs.Table.{directory}
+use Rattle.directory.proofs.Rules.{directory-ruled}
+use borrow.Author.Needs.{needs}
+use Rattle.directory.proofs.run.Statement.{statement}
+use Rattle.directory.proofs.run.Tie as tie
+
+slice-aggregate-run-in : tie.Need-slice-aggregate-run-in
+slice-aggregate-run-in c = search needs
+
+run-in-requires : tie.Need-run-in-requires
+unfolding directory items
+run-in-requires c κs = (omega arith, directory-ruled)
+
+returns : tie.Need-returns
+unfolding directory items
+returns c = c .run-in .ensures
+
+pub run-spec : {M : Type 1} → statement M
+run-spec = tie.close (tie.spec slice-aggregate-run-in run-in-requires returns)

@@ -1,0 +1,7 @@
+pub mod Item
+pub mod Quantity
+pub mod Table
+pub mod Order
+pub mod Run
+pub mod Rules
+pub mod Setup

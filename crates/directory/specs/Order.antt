@@ -1,0 +1,32 @@
+-- Paper 01, "The directory": the rules of a directory, as tests that are computed once over a whole table.
+use Prim.Native.Nat.{ℕ, _+_}
+use mathlib.Core.List.{List, [], _∷_}
+use mathlib.Core.Bool.{Bool, true, false, _&&_, _||_, cond}
+use lib.Dec.{leb, ltb, eqb}
+use Rattle.directory.specs.declared.Item.{Item}
+use Rattle.directory.specs.Item.{ends}
+
+-- ascending, without overlap: each item fills something, and starts where the one before ends, or after
+unfoldable pub ascends : ℕ → List Item → Bool
+ascends from [] = true
+ascends from (it ∷ its) = leb from (it .start) && (ltb 0 (it .fills) && ascends (ends it) its)
+
+-- a test of each item
+unfoldable pub every : (Item → Bool) → List Item → Bool
+every test [] = true
+every test (it ∷ its) = test it && every test its
+
+-- one word is sent, or two
+abbrev pub narrow : Item → Bool
+narrow it = leb 1 (it .words) && leb (it .words) 2
+
+-- a directory, as the functions over any directory ask for one
+abbrev pub ruled : List Item → Bool
+ruled its = ascends 0 its && every narrow its
+
+-- L sends two words and fills 4 addresses of the byte block, W one and 2, B one and 1; in the word blocks L 2 and 2, W 1 and 1
+abbrev pub shaped : Item → Bool
+shaped it =
+    cond (ltb (it .start) 0x1000)
+    (cond (eqb (it .words) 2) (eqb (it .fills) 4) (eqb (it .words) 1 && (eqb (it .fills) 2 || eqb (it .fills) 1)))
+    ((eqb (it .words) 2 && eqb (it .fills) 2) || (eqb (it .words) 1 && eqb (it .fills) 1))

@@ -1,0 +1,137 @@
+// The directory of registers (paper 01, "The directory"): a flat constant table, an item found in it by its address,
+// and the run of items that a read asks for. What goes along a table takes any table, and how many of its first items
+// are to be seen; the public face goes along the meter's own.
+pub mod quantity;
+pub mod table;
+
+ghost use mathlib.Core.Path.{_≡_};
+ghost use Prim.Native.Nat.{_+_, _*_, _≤_, _<_};
+ghost use lib.ListN.{length, take, getD};
+ghost use lib.Dec.{T};
+ghost use Rattle.directory.specs.Item.{items, none};
+ghost use Rattle.directory.specs.Order.{ruled};
+ghost use Rattle.directory.specs.Run.{findIn, runIn};
+ghost use Rattle.directory.specs.Setup.{setupOk};
+ghost use Rattle.directory.specs.Table.{directory};
+use refusal::ErrorCode;
+
+pub struct Item {
+    pub start: u16,
+    pub fills: u16,
+    pub words: u16,
+    pub quantity: u16,
+}
+
+// How many items paper 01's table has.
+pub const ITEMS: usize = 142;
+
+pub enum Found {
+    At(usize),
+    Nothing,
+}
+
+// The items that a read asks for, from the index `first` on, or what is wrong with it.
+pub enum Span {
+    Items { first: usize, count: usize },
+    Error(ErrorCode),
+}
+
+// The item of index i.
+pub fn item_at(t: &[u16], i: usize) -> Item
+    requires { ⌜ 4 * i + 4 ≤ length (now t) ⌝ }
+    ensures { λ r. ⌜ r ≡ getD (items (now (t .entry))) i none ⌝ }
+{
+    let at = 4 * i;
+    Item {
+        start: t[at],
+        fills: t[at + 1],
+        words: t[at + 2],
+        quantity: t[at + 3],
+    }
+}
+
+// The index of the item that starts at an address. The table ascends, so what is left of it is halved at each look.
+pub fn find_in(t: &[u16], n: usize, address: u16) -> Found
+    requires { ⌜ (4 * n ≤ length (now t)) × T (ruled (items (now t))) ⌝ }
+    ensures { λ r. ⌜ r ≡ findIn (take n (items (now (t .entry)))) address 0 ⌝ }
+{
+    let mut low: usize = 0;
+    let mut high: usize = n;
+    while low < high {
+        let middle = low + (high - low) / 2;
+        let it = item_at(t, middle);
+        if it.start == address {
+            return Found::At(middle);
+        }
+        if it.start < address {
+            low = middle + 1;
+        } else {
+            high = middle;
+        }
+    }
+    Found::Nothing
+}
+
+// The run for `words` words from `start`. An item that starts where the one before ends can only be the table's next,
+// so only the first is looked for.
+pub fn run_in(t: &[u16], n: usize, start: u16, words: u16) -> Span
+    requires { ⌜ (4 * n ≤ length (now t)) × T (ruled (items (now t))) ⌝ }
+    ensures { λ r. ⌜ r ≡ runIn (take n (items (now (t .entry)))) start words ⌝ }
+{
+    let found = find_in(t, n, start);
+    let Found::At(first) = found else {
+        return Span::Error(ErrorCode::Address);
+    };
+    let mut i = first;
+    let mut next = start as u32;
+    let mut due = words;
+    while 0 < due {
+        if n <= i {
+            return Span::Error(ErrorCode::Address);
+        }
+        let it = item_at(t, i);
+        if it.start as u32 != next {
+            return Span::Error(ErrorCode::Address);
+        }
+        if due < it.words {
+            return Span::Error(ErrorCode::Data);
+        }
+        next += it.fills as u32;
+        due -= it.words;
+        i += 1;
+    }
+    Span::Items {
+        first,
+        count: i - first,
+    }
+}
+
+// The index in the meter's directory of the item that starts at an address.
+pub fn find(address: u16) -> Found
+    ensures { λ r. ⌜ r ≡ findIn directory address 0 ⌝ }
+{
+    find_in(&table::TABLE, ITEMS, address)
+}
+
+// The run along the meter's directory.
+pub fn run(start: u16, words: u16) -> Span
+    ensures { λ r. ⌜ r ≡ runIn directory start words ⌝ }
+{
+    run_in(&table::TABLE, ITEMS, start, words)
+}
+
+// Whether the setup word at an address may hold a value.
+pub fn setup_ok(address: u16, value: u16) -> bool
+    ensures { λ r. ⌜ r ≡ setupOk address value ⌝ }
+{
+    match address {
+        0x2005 => value <= 1,
+        0x200a => value <= 6,
+        0x200b => (value == 0) | (value == 3),
+        0x200c..=0x200e => value <= 10,
+        0x2215 => value <= 5,
+        0x2216 => value <= 6,
+        0x2217 => value <= 1,
+        _ => true,
+    }
+}
