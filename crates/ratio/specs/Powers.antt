@@ -1,9 +1,11 @@
--- Paper 01, "Steps of the registers", Powers; and the power limit of "The meter's record". A power is a magnitude in
--- hundredths of W, var or VA, with a flag where it is negative.
+-- Paper 01, "Steps of the registers", Powers; the power limit of "The meter's record"; the power factor of "The
+-- directory". A power is a magnitude in hundredths of W, var or VA, a factor one in thousandths, each with a flag where
+-- it is negative.
 use mathlib.Core.Path.{_≡_}
 use Prim.Native.Nat.{ℕ, _/_, _^_, _≤_, _<_}
 use mathlib.Core.Bool.{Bool, cond}
 use lib.Dec.{ltb}
+use Rattle.words.specs.Signed.{twos}
 
 -- in hundredths if T < 50,000, else in whole units
 abbrev pub hundredthsAt : ℕ → Bool
@@ -16,6 +18,22 @@ powerLimit t = cond (hundredthsAt t) 4294967295 214748364799
 -- P, Q, S registers hold a magnitude, in hundredths if T < 50,000, else in whole units, rounded down
 unfoldable pub powerRegister : ℕ → ℕ → ℕ
 powerRegister t hundredths = cond (hundredthsAt t) hundredths (hundredths / 100)
+
+-- sign words: 0 for zero or more, 1 for negative
+abbrev pub signWord : Bool → ℕ
+signWord negative = cond negative 1 0
+
+-- signed words (0x1518 on) are whole W or var, cut toward zero
+abbrev pub signedPower : Bool → ℕ → ℕ
+signedPower negative hundredths = twos 2 negative (hundredths / 100)
+
+-- power factor in hundredths is thousandths cut toward zero
+abbrev pub factorHundredths : Bool → ℕ → ℕ
+factorHundredths negative thousandths = twos 1 negative (thousandths / 10)
+
+-- power factor in thousandths
+abbrev pub factorThousandths : Bool → ℕ → ℕ
+factorThousandths negative thousandths = twos 2 negative thousandths
 
 -- STATEMENT: what is within the limit fits its register, and in whole units also a signed L
 pub record PowersFit : Type 0 where

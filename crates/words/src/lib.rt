@@ -5,6 +5,7 @@ ghost use Prim.Native.Nat.{_+_, _*_, _≤_, _<_};
 ghost use lib.ListN.{length};
 ghost use lib.Seq.{sets};
 ghost use Rattle.words.specs.Words.{word, sent, wordAt, valueAt};
+ghost use Rattle.words.specs.Signed.{twos};
 
 pub fn put_word(buf: &mut [u8], at: usize, w: u16)
     requires { ⌜ at + 2 ≤ length (now buf) ⌝ }
@@ -52,4 +53,30 @@ pub fn value_at(bytes: &[u8], at: usize, words: usize) -> u32
     } else {
         first * 65536 + word_at(bytes, at + 2) as u32
     }
+}
+
+// Two's complement in one word.
+pub fn twos_word(negative: bool, magnitude: u16) -> u16
+    ensures { λ r. ⌜ r ≡ twos 1 negative magnitude ⌝ }
+{
+    if !negative {
+        return magnitude;
+    }
+    if magnitude == 0 {
+        return 0;
+    }
+    65535 - (magnitude - 1)
+}
+
+// Two's complement in two words.
+pub fn twos_long(negative: bool, magnitude: u32) -> u32
+    ensures { λ r. ⌜ r ≡ twos 2 negative magnitude ⌝ }
+{
+    if !negative {
+        return magnitude;
+    }
+    if magnitude == 0 {
+        return 0;
+    }
+    4_294_967_295 - (magnitude - 1)
 }
