@@ -100,11 +100,11 @@ window-whole its x n e = record { order = omega arith; inside = omega arith; bel
 module _ {its : List Item} {x low high : ℕ} (asc : Ascends 0 its) (w : Window its x low high) where
   pub window-up : (k : ℕ) → k < high → getD its k none .start < x → Window its x (k + 1) high
   window-up k h b = record {
-      order = omega arith;
-      inside = w .inside;
-      below = skipped asc x k (omega (arith, w .inside)) b;
-      above = w .above;
-    }
+    order = omega arith;
+    inside = w .inside;
+    below = skipped asc x k (omega (arith, w .inside)) b;
+    above = w .above;
+  }
 
   pub window-down : (k : ℕ) → low ≤ k → k < high → x < getD its k none .start → Window its x low k
   window-down k l h b = record { order = l; inside = omega (arith, w .inside); below = w .below; above = λ _. b }

@@ -28,12 +28,12 @@ directory-count = refl
 
 pub directory-rules : DirectoryRules
 directory-rules = record {
-    count = directory-count;
-    apart = apart (ruled-ascends directory directory-ruled);
-    shapes = λ i h. passes _ (every-at shaped directory directory-shaped i h);
-    found = λ i h. found-here (ruled-ascends directory directory-ruled) _ i h refl;
-    starts = found-starts directory;
-  }
+  count = directory-count;
+  apart = apart (ruled-ascends directory directory-ruled);
+  shapes = λ i h. passes _ (every-at shaped directory directory-shaped i h);
+  found = λ i h. found-here (ruled-ascends directory directory-ruled) _ i h refl;
+  starts = found-starts directory;
+}
 
 pub energy-places : EnergyPlaces
 unfolding placesOf directory

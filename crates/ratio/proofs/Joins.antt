@@ -17,16 +17,16 @@ use Rattle.ratio.proofs.Steps.{step-laws}
 wrap : (t : ℕ) (e : WattHours) → e .0 ≤ topWh → wrapOf t e < 65536
 wrap t e h =
     let count : countOf t e < 6553600000000 = div-lt-iff-lt-mul {k = stepOf t} (omega (arith, step-laws .least t)) .1
-          (omega (arith, mul-le-mul-left 6553600000000 (step-laws .least t))) in
+    (omega (arith, mul-le-mul-left 6553600000000 (step-laws .least t))) in
     omega arith
 
 pub counts-fit : CountsFit
 counts-fit = record {
-    register = λ t e. omega arith;
-    wrap = wrap;
-    low = λ e. omega arith;
-    high = λ e h. omega arith;
-  }
+  register = λ t e. omega arith;
+  wrap = wrap;
+  low = λ e. omega arith;
+  high = λ e h. omega arith;
+}
 
 counts : (r : Ratios) (e : WattHours) → ratiosOk r ≡ true → joinOf r (registerOf (tOf r) e) (wrapOf (tOf r) e) ≡ Energy (roundedOf (tOf r) e)
 unfolding joinOf
@@ -40,8 +40,8 @@ halves e h =
 
 pub join-split : JoinSplit
 join-split = record {
-    counts = counts;
-    halves = halves;
-    above = λ t e. div-mul-le-self (e .0) (stepOf t);
-    below = λ t e. lt-div-mul-add {a = e .0} {b = stepOf t} (omega (arith, step-laws .least t));
-  }
+  counts = counts;
+  halves = halves;
+  above = λ t e. div-mul-le-self (e .0) (stepOf t);
+  below = λ t e. lt-div-mul-add {a = e .0} {b = stepOf t} (omega (arith, step-laws .least t));
+}

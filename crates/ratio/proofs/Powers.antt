@@ -18,7 +18,7 @@ signed b x h = omega (arith, limit b)
 pub powers-fit : PowersFit
 unfolding powerLimit powerRegister
 powers-fit = record {
-    limit = λ t. limit (hundredthsAt t);
-    register = λ t. register (hundredthsAt t);
-    signed = λ t. signed (hundredthsAt t);
-  }
+  limit = λ t. limit (hundredthsAt t);
+  register = λ t. register (hundredthsAt t);
+  signed = λ t. signed (hundredthsAt t);
+}

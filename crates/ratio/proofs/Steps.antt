@@ -22,6 +22,6 @@ most false false false false = omega arith
 pub step-laws : StepLaws
 unfolding stepOf
 step-laws = record {
-    least = λ t. least (ltb t 100) (ltb t 1000) (ltb t 10000) (ltb t 100000);
-    most = λ t. most (ltb t 100) (ltb t 1000) (ltb t 10000) (ltb t 100000);
-  }
+  least = λ t. least (ltb t 100) (ltb t 1000) (ltb t 10000) (ltb t 100000);
+  most = λ t. most (ltb t 100) (ltb t 1000) (ltb t 10000) (ltb t 100000);
+}

@@ -38,6 +38,6 @@ code-back Data = refl
 
 pub one-reason-each : OneReasonEach
 one-reason-each = record {
-    refusals = λ a b e. sym (reason-back a) ∙ ap reasonOf e ∙ reason-back b;
-    errors = λ a b e. sym (code-back a) ∙ ap codeOf e ∙ code-back b;
-  }
+  refusals = λ a b e. sym (reason-back a) ∙ ap reasonOf e ∙ reason-back b;
+  errors = λ a b e. sym (code-back a) ∙ ap codeOf e ∙ code-back b;
+}

@@ -6,26 +6,19 @@ use Rattle.words.proofs.Signs.{twos-plain, twos-zero, twos-negative}
 use borrow.Author.Needs.{needs}
 use Rattle.words.proofs.twos_word.Statement.{statement}
 use Rattle.words.proofs.twos_word.Tie as tie
-use Rattle.words.proofs.twos_word.Reads as reads
-use Rattle.words.proofs.twos_word.Lts as lts
 
--- src/lib.rt:63:9
 returns : tie.Need-returns
 returns c = rw (not-true (c .before .args .negative) (c .if1 .taken), twos-plain) refl
 
--- src/lib.rt:66:9
 returns-2 : tie.Need-returns-2
 returns-2 c = rw (not-false (c .before .before .args .negative) (c .before .if1 .left), c .if2 .taken, twos-zero) refl
 
--- src/lib.rt:68:14
 sub-result : tie.Need-sub-result
 sub-result c = search needs
 
--- src/lib.rt:68:5
 sub-result-2 : tie.Need-sub-result-2
 sub-result-2 c = search needs
 
--- src/lib.rt:59:1
 returns-3 : tie.Need-returns-3
 returns-3 c =
     let m = c .before .before .args .magnitude in

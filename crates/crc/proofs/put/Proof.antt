@@ -1,0 +1,81 @@
+-- `put` tests for room as it is written, with the sum turned into a difference that cannot wrap, and its two stores are the CRC's two bytes on the line.
+use mathlib.Core.Path.{_≡_, sym}
+use mathlib.Core.Bool.{true, false}
+use mathlib.Core.List.{List}
+use Prim.Native.Nat.{ℕ, _+_, _/_, _%_, _≤_, _<_}
+use native.Mathlib.Numerals.{add-one}
+use native.Mathlib.Omega.{arith}
+use lib.ListN.{length, take, set, length-set}
+use lib.Seq.{length-take-le}
+use borrow.Author.Needs.{needs}
+use borrow.Author.Tests.{le-leb, lt-leb}
+use Rattle.crc.specs.Crc.{crcOf, Put}
+use Rattle.crc.proofs.put.Statement.{statement}
+use Rattle.crc.proofs.put.Tie as tie
+
+no-room : (buf : List ℕ) (n : ℕ) → length buf < n + 2 → Put buf n false buf
+no-room buf n h =
+    let e = lt-leb (n + 2) (length buf) h in
+    record { answer = sym e; bytes = simp e }
+
+room : (buf : List ℕ) (n r : ℕ) → n + 2 ≤ length buf → r ≡ crcOf (take n buf) → Put buf n true (set (set buf n (r % 256)) (n + 1) (r / 256))
+room buf n r h c =
+    let e = le-leb (n + 2) (length buf) h in
+    record { answer = sym e; bytes = simp (e, c, add-one) }
+
+returns : tie.Need-returns
+returns c = no-room _ _ (omega arith)
+
+sub-if2 : tie.Need-sub-if2
+sub-if2 c = search needs
+
+returns-2 : tie.Need-returns-2
+returns-2 c = no-room _ _ (omega arith)
+
+slice-reshare-prefix-of : tie.Need-slice-reshare-prefix-of
+slice-reshare-prefix-of c = search needs
+
+slice-aggregate-of : tie.Need-slice-aggregate-of
+slice-aggregate-of c = sym (length-take-le _ _ (omega arith))
+
+of-requires : tie.Need-of-requires
+of-requires c κs = search needs
+
+cast-buf : tie.Need-cast-buf
+cast-buf c = search needs
+
+slice-write-buf : tie.Need-slice-write-buf
+slice-write-buf c = search needs
+
+cast-buf-2 : tie.Need-cast-buf-2
+cast-buf-2 c = search needs
+
+add-buf : tie.Need-add-buf
+add-buf c = search needs
+
+slice-write-buf-2 : tie.Need-slice-write-buf-2
+slice-write-buf-2 c = simp length-set (omega arith)
+
+same-length : tie.Need-same-length
+same-length c = search needs
+
+returns-3 : tie.Need-returns-3
+returns-3 c = room _ _ (c .of .result) (omega arith) (c .of .ensures)
+
+pub put-spec : {M : Type 1} → statement M
+put-spec =
+    tie.close
+    (tie.spec
+    returns
+    sub-if2
+    returns-2
+    slice-reshare-prefix-of
+    slice-aggregate-of
+    of-requires
+    cast-buf
+    slice-write-buf
+    cast-buf-2
+    add-buf
+    slice-write-buf-2
+    same-length
+    returns-3)

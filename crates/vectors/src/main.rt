@@ -1,0 +1,254 @@
+// The documents' examples, run: what each comes to is printed, and held to the file `stdout`.
+mod say;
+
+use directory::Span;
+use ratio::Count;
+use ratio::Joined;
+use ratio::Ratios;
+use ratio::WattHours;
+
+// A frame as it is printed: the CRC that the rule gives, and whether it is the printed one.
+fn frame(name: &[u8], f: &[u8]) {
+    let n = f.len();
+    if n < 2 {
+        return;
+    }
+    let crc = crc::of(&f[..n - 2]);
+    say::text(name);
+    say::text(b":");
+    say::bytes(&[(crc % 256) as u8, (crc / 256) as u8]);
+    if crc::intact(f) {
+        say::text(b" as printed\n");
+    } else {
+        say::text(b", printed");
+        say::bytes(&f[n - 2..]);
+        say::text(b"\n");
+    }
+}
+
+fn frames_of_003() {
+    frame(
+        b"003 demand of 4 words",
+        &[0x01, 0x03, 0x03, 0x01, 0x00, 0x04, 0x15, 0x8D],
+    );
+    frame(
+        b"003 answer, two voltages",
+        &[
+            0x01,
+            0x03,
+            0x08,
+            0x00,
+            0x00,
+            0xD8,
+            0x85,
+            0x00,
+            0x00,
+            0x86,
+            0x9F,
+            0x68,
+            0xD9,
+        ],
+    );
+    frame(
+        b"003 demand of 2 words",
+        &[0x01, 0x03, 0x03, 0x01, 0x00, 0x02, 0x95, 0x8F],
+    );
+    frame(
+        b"003 answer, 100 V",
+        &[0x01, 0x03, 0x04, 0x00, 0x01, 0x86, 0xA0, 0xC9, 0xEB],
+    );
+}
+
+fn frames_of_004() {
+    frame(
+        b"004 demand of 4 words",
+        &[0x01, 0x03, 0x10, 0x1C, 0x00, 0x04, 0x81, 0x0F],
+    );
+    frame(
+        b"004 answer, two energies",
+        &[
+            0x01,
+            0x03,
+            0x08,
+            0x00,
+            0x00,
+            0x64,
+            0x8C,
+            0x00,
+            0x00,
+            0x35,
+            0x54,
+            0x9A,
+            0x83,
+        ],
+    );
+}
+
+// 001's answer of 0x2000: 16 words, in spite of the 16 BYTES beside its table.
+fn standard_setup() {
+    let mut f = [0u8; 37];
+    f[0] = 0xFF;
+    f[1] = 0x03;
+    f[2] = 0x20;
+    f[6] = 0x05;
+    f[10] = 0x03;
+    f[12] = 0x0A;
+    f[20] = 0x01;
+    f[22] = 0x01;
+    f[28] = 0x03;
+    f[30] = 0x02;
+    f[32] = 0x01;
+    f[35] = 0xBC;
+    f[36] = 0xB2;
+    frame(b"001 answer of 0x2000", &f);
+}
+
+// Answers of 0x2200: 001 prints 25 words where its byte number says 24, 000 the last two the other way round.
+fn output_setup() {
+    let mut printed = [0u8; 55];
+    printed[0] = 0xFF;
+    printed[1] = 0x03;
+    printed[2] = 0x30;
+    printed[50] = 0x02;
+    printed[52] = 0x01;
+    printed[53] = 0x6D;
+    printed[54] = 0xC1;
+    frame(b"001 answer of 0x2200, 25 words", &printed);
+    let mut f = [0u8; 53];
+    f[0] = 0xFF;
+    f[1] = 0x03;
+    f[2] = 0x30;
+    f[48] = 0x02;
+    f[50] = 0x01;
+    f[51] = 0x6D;
+    f[52] = 0xC1;
+    frame(b"001 answer of 0x2200, 24 words", &f);
+    f[48] = 0x01;
+    f[50] = 0x02;
+    frame(b"000 answer of 0x2200", &f);
+}
+
+// A value in one word and in two, and the two read back.
+fn sent(v: u32) {
+    let mut w = [0u8; 2];
+    words::put(&mut w, 0, 1, v);
+    let mut l = [0u8; 4];
+    words::put(&mut l, 0, 2, v);
+    say::number(v as u64);
+    say::text(b" is sent as");
+    say::bytes(&w);
+    say::text(b" or");
+    say::bytes(&l);
+    say::text(b", read back ");
+    say::number(words::value_at(&l, 0, 2) as u64);
+    say::text(b"\n");
+}
+
+// What follows from a pair of ratios.
+fn ratios(kta: u16, ktv: u16) {
+    let t = Ratios { kta, ktv }.tenths();
+    say::text(b"KTA ");
+    say::number(kta as u64);
+    say::text(b", KTV ");
+    say::number(ktv as u64);
+    say::text(b": step ");
+    say::number(ratio::energy_step(t) as u64);
+    say::text(b" Wh, 12345 hundredths of a watt are shown as ");
+    say::number(ratio::power_register(t, 12_345));
+    say::text(b", at most ");
+    say::number(ratio::power_limit(t));
+    say::text(b"\n");
+}
+
+fn joined(j: Joined) {
+    match j {
+        Joined::Energy(e) => say::number(e.0),
+        Joined::Refused(r) => {
+            say::text(b"refused ");
+            say::number(r.number() as u64);
+        }
+    }
+}
+
+// An energy in the three tables at a step of 1,000 Wh, and joined again.
+fn energy(wh: u64) {
+    let at = Ratios { kta: 100, ktv: 10 };
+    let e = WattHours(wh);
+    let register = e.register(at.tenths());
+    let wrap = e.wrap(at.tenths());
+    say::number(wh);
+    say::text(b" Wh: register ");
+    say::number(register.0 as u64);
+    say::text(b", wrap ");
+    say::number(wrap);
+    say::text(b", Low ");
+    say::number(e.low() as u64);
+    say::text(b", High ");
+    say::number(e.high());
+    say::text(b", joined ");
+    joined(ratio::join(at, register, (wrap % 65536) as u16));
+    say::text(b" and ");
+    joined(ratio::join_halves(e.low(), (e.high() % 4_294_967_296) as u32));
+    say::text(b"\n");
+}
+
+// What a join refuses.
+fn refusals() {
+    say::text(b"KTV of 9 tenths: ");
+    joined(ratio::join(Ratios { kta: 1, ktv: 9 }, Count(100_000_000), 0));
+    say::text(b"\ncount of 100000000: ");
+    joined(ratio::join(Ratios { kta: 1, ktv: 10 }, Count(100_000_000), 0));
+    say::text(b"\nLow of 1000000: ");
+    joined(ratio::join_halves(1_000_000, 0));
+    say::text(b"\n");
+}
+
+// The run of a read: the quantities of its items, or the error code.
+fn run(start: u16, asked: u16) {
+    say::number(asked as u64);
+    say::text(b" words from 0x");
+    say::hex(start as u64, 4);
+    match directory::run(start, asked) {
+        Span::Error(e) => {
+            say::text(b": error ");
+            say::number(e.number() as u64);
+        }
+        Span::Items { first, count } => {
+            say::text(b": items ");
+            say::number(first as u64);
+            say::text(b" on, ");
+            say::number(count as u64);
+        }
+    }
+    say::text(b"\n");
+}
+
+fn main() {
+    frames_of_003();
+    frames_of_004();
+    frame(
+        b"001 demand of 0x2000",
+        &[0xFF, 0x03, 0x20, 0x00, 0x00, 0x10, 0x5A, 0x18],
+    );
+    standard_setup();
+    frame(
+        b"001 demand of 0x2200",
+        &[0xFF, 0x03, 0x22, 0x00, 0x00, 0x18, 0x5A, 0x66],
+    );
+    output_setup();
+    sent(1_000);
+    sent(100_000);
+    ratios(1, 99);
+    ratios(10, 10);
+    ratios(4_999, 10);
+    ratios(5_000, 10);
+    energy(1_999);
+    energy(100_000_000_000);
+    refusals();
+    run(0x0301, 4);
+    run(0x0303, 2);
+    run(0x033f, 2);
+    run(0x0301, 1);
+    run(0x034d, 3);
+    run(0x034d, 4);
+}

@@ -1,0 +1,29 @@
+// Text and numbers on standard output.
+use libc::STDOUT_FILENO;
+
+pub fn text(t: &[u8]) {
+    io::write_all(STDOUT_FILENO, t);
+}
+
+pub fn number(n: u64) {
+    io::print_decimal(STDOUT_FILENO, n);
+}
+
+// A number in hexadecimal, at least `width` digits.
+pub fn hex(n: u64, width: usize) {
+    io::print_hex(STDOUT_FILENO, n, width);
+}
+
+fn byte(b: u8) {
+    text(b" ");
+    hex(b as u64, 2);
+}
+
+// A space before each byte.
+pub fn bytes(b: &[u8]) {
+    let mut i: usize = 0;
+    while i < b.len() {
+        byte(b[i]);
+        i += 1;
+    }
+}
