@@ -29,58 +29,30 @@ fn frame(name: &[u8], f: &[u8]) {
 fn frames_of_003() {
     frame(
         b"003 demand of 4 words",
-        &[0x01, 0x03, 0x03, 0x01, 0x00, 0x04, 0x15, 0x8D],
+        b"\x01\x03\x03\x01\x00\x04\x15\x8D",
     );
     frame(
         b"003 answer, two voltages",
-        &[
-            0x01,
-            0x03,
-            0x08,
-            0x00,
-            0x00,
-            0xD8,
-            0x85,
-            0x00,
-            0x00,
-            0x86,
-            0x9F,
-            0x68,
-            0xD9,
-        ],
+        b"\x01\x03\x08\x00\x00\xD8\x85\x00\x00\x86\x9F\x68\xD9",
     );
     frame(
         b"003 demand of 2 words",
-        &[0x01, 0x03, 0x03, 0x01, 0x00, 0x02, 0x95, 0x8F],
+        b"\x01\x03\x03\x01\x00\x02\x95\x8F",
     );
     frame(
         b"003 answer, 100 V",
-        &[0x01, 0x03, 0x04, 0x00, 0x01, 0x86, 0xA0, 0xC9, 0xEB],
+        b"\x01\x03\x04\x00\x01\x86\xA0\xC9\xEB",
     );
 }
 
 fn frames_of_004() {
     frame(
         b"004 demand of 4 words",
-        &[0x01, 0x03, 0x10, 0x1C, 0x00, 0x04, 0x81, 0x0F],
+        b"\x01\x03\x10\x1C\x00\x04\x81\x0F",
     );
     frame(
         b"004 answer, two energies",
-        &[
-            0x01,
-            0x03,
-            0x08,
-            0x00,
-            0x00,
-            0x64,
-            0x8C,
-            0x00,
-            0x00,
-            0x35,
-            0x54,
-            0x9A,
-            0x83,
-        ],
+        b"\x01\x03\x08\x00\x00\x64\x8C\x00\x00\x35\x54\x9A\x83",
     );
 }
 
@@ -226,15 +198,9 @@ fn run(start: u16, asked: u16) {
 fn main() {
     frames_of_003();
     frames_of_004();
-    frame(
-        b"001 demand of 0x2000",
-        &[0xFF, 0x03, 0x20, 0x00, 0x00, 0x10, 0x5A, 0x18],
-    );
+    frame(b"001 demand of 0x2000", b"\xFF\x03\x20\x00\x00\x10\x5A\x18");
     standard_setup();
-    frame(
-        b"001 demand of 0x2200",
-        &[0xFF, 0x03, 0x22, 0x00, 0x00, 0x18, 0x5A, 0x66],
-    );
+    frame(b"001 demand of 0x2200", b"\xFF\x03\x22\x00\x00\x18\x5A\x66");
     output_setup();
     sent(1_000);
     sent(100_000);
