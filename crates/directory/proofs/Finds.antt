@@ -1,7 +1,7 @@
 -- Finding in an ascending directory: the item that starts at an address is found at its own index, items that start
 -- below need not be looked at, and from one that starts above on there is none.
-use mathlib.Core.Path.{_≡_, refl, sym, ap, _∙_}
-use mathlib.Core.Bool.{Bool, true, false, cond}
+use mathlib.Core.Path.{_≡_, refl, ap, _∙_}
+use mathlib.Core.Bool.{Bool, true, false}
 use mathlib.Core.List.{List, [], _∷_}
 use Prim.Native.Nat.{ℕ, zero, suc, _+_, _≤_, _<_}
 use native.Mathlib.Nat.{add-zero, zero-add}
@@ -13,7 +13,7 @@ use lib.Seq.{drop-nil}
 use borrow.Author.Tests.{eq-eqb, ne-eqb, eqb-true}
 use Rattle.directory.specs.declared.Item.{Item}
 use Rattle.directory.specs.declared.Found.the-variants.{At, Nothing}
-use Rattle.directory.specs.Item.{none, ends}
+use Rattle.directory.specs.Item.{none}
 use Rattle.directory.specs.Run.{findIn}
 use Rattle.directory.proofs.Order.{Ascends, done, next, all-from}
 

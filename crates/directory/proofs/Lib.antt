@@ -3,4 +3,5 @@ pub mod Order
 pub mod Views
 pub mod Finds
 pub mod Runs
+pub mod Sends
 pub mod Rules

@@ -7,7 +7,7 @@ use mathlib.Core.Logic.{_⊎_, inl, inr, ⊎-elim}
 use Prim.Native.Nat.{ℕ, zero, suc, _+_, _-_, _≤_, _<_}
 use native.Mathlib.Numerals.{add-one}
 use native.Mathlib.Omega.{arith}
-use lib.Dec.{eqb, ltb}
+use lib.Dec.{eqb}
 use lib.ListN.{length, getD, drop, drop-of-length-le}
 use lib.Seq.{drop-cons}
 use borrow.Author.Tests.{eq-eqb, ne-eqb, eqb-false}
@@ -63,7 +63,7 @@ pub stands-first : {its : List Item} (x k : ℕ) → findIn its x 0 ≡ At k →
 stands-first {its} x k f =
     record { looks = f ∙ sym (ap (λ (l : List Item). here l x k) (drop-cons its k none (found-inside its x k f)) ∙ simp (eq-eqb _ _ (found-starts its x k f))) }
 
-stands-next : {its : List Item} → Ascends 0 its → (k : ℕ) → k < length its → Stands its (k + 1) (ends (getD its k none))
+pub stands-next : {its : List Item} → Ascends 0 its → (k : ℕ) → k < length its → Stands its (k + 1) (ends (getD its k none))
 stands-next {its} asc k h =
     let x = ends (getD its k none) in
     record { looks = skipped asc x k h (omega (arith, fills-some asc k h)) ∙ rw add-one (first-only x (suc k) (ascends-behind asc k h)) }
@@ -73,10 +73,10 @@ module _ {its : List Item} {i x : ℕ} (s : Stands its i x) where
   pub stands-end : length its ≤ i → findIn its x 0 ≡ Nothing
   stands-end h = s .looks ∙ ap (λ (l : List Item). here l x i) (drop-of-length-le its h)
 
-  stands-off : i < length its → (getD its i none .start ≡ x → ⊥) → findIn its x 0 ≡ Nothing
+  pub stands-off : i < length its → (getD its i none .start ≡ x → ⊥) → findIn its x 0 ≡ Nothing
   stands-off h n = s .looks ∙ ap (λ (l : List Item). here l x i) (drop-cons its i none h) ∙ simp (ne-eqb _ _ n)
 
-  stands-on : i < length its → getD its i none .start ≡ x → findIn its x 0 ≡ At i
+  pub stands-on : i < length its → getD its i none .start ≡ x → findIn its x 0 ≡ At i
   stands-on h e = s .looks ∙ ap (λ (l : List Item). here l x i) (drop-cons its i none h) ∙ simp (eq-eqb _ _ e)
 
 -- the run's first step, by whether an item starts there; and its last, with no word due
@@ -100,13 +100,13 @@ run-gap dir first count address (suc zero) d f = simp f
 run-gap dir first count address (suc (suc due)) d f = simp f
 
 module _ (dir : List Item) (first count address k : ℕ) (w : Narrow (getD dir k none)) (f : findIn dir address 0 ≡ At k) where
-  run-half : (due : ℕ) → 0 < due → due < getD dir k none .words → runFrom dir first count address due ≡ Error Data
+  pub run-half : (due : ℕ) → 0 < due → due < getD dir k none .words → runFrom dir first count address due ≡ Error Data
   unfolding runFrom
   run-half zero d h = let z : ⊥ = omega arith in absurd z
   run-half (suc zero) d h = simp (f, eq-eqb (getD dir k none .words) 2 (omega (arith, w .few)))
   run-half (suc (suc due)) d h = let z : ⊥ = omega (arith, w .few) in absurd z
 
-  run-next : (due : ℕ) → 0 < due → getD dir k none .words ≤ due → runFrom dir first count address due ≡ runFrom dir first (count + 1) (ends (getD dir k none)) (due - getD dir k none .words)
+  pub run-next : (due : ℕ) → 0 < due → getD dir k none .words ≤ due → runFrom dir first count address due ≡ runFrom dir first (count + 1) (ends (getD dir k none)) (due - getD dir k none .words)
   unfolding runFrom
   run-next zero d h = let z : ⊥ = omega arith in absurd z
   run-next (suc zero) d h =

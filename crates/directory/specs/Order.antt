@@ -1,7 +1,7 @@
 -- Paper 01, "The directory": the rules of a directory, as tests that are computed once over a whole table.
-use Prim.Native.Nat.{ℕ, _+_}
+use Prim.Native.Nat.{ℕ}
 use mathlib.Core.List.{List, [], _∷_}
-use mathlib.Core.Bool.{Bool, true, false, _&&_, _||_, cond}
+use mathlib.Core.Bool.{Bool, true, _&&_, _||_, cond}
 use lib.Dec.{leb, ltb, eqb}
 use Rattle.directory.specs.declared.Item.{Item}
 use Rattle.directory.specs.Item.{ends}

@@ -1,9 +1,10 @@
 -- Paper 01, "What the meter does with a frame", step 4, over any directory: where a read starts, and the run of its items.
-use Prim.Native.Nat.{ℕ, zero, suc, _+_}
+use mathlib.Core.Path.{_≡_}
+use Prim.Native.Nat.{ℕ, zero, suc, _+_, _≤_}
 use mathlib.Core.List.{List, [], _∷_}
 use mathlib.Core.Bool.{Bool, cond}
-use lib.ListN.{getD}
-use lib.Dec.{eqb}
+use lib.ListN.{length, getD, take, drop}
+use lib.Dec.{T, eqb}
 use Rattle.refusal.specs.declared.ErrorCode.the-variants.{Address, Data}
 use Rattle.directory.specs.declared.Item.{Item}
 use Rattle.directory.specs.declared.Found.{Found}
@@ -11,6 +12,7 @@ use Rattle.directory.specs.declared.Found.the-variants.{At, Nothing}
 use Rattle.directory.specs.declared.Span.{Span}
 use Rattle.directory.specs.declared.Span.the-variants.{Items, Error}
 use Rattle.directory.specs.Item.{none, ends}
+use Rattle.directory.specs.Order.{ruled}
 
 -- the index, counted from i, of the first item that starts at an address
 unfoldable pub findIn : List Item → ℕ → ℕ → Found
@@ -44,3 +46,16 @@ runFrom dir first count address (suc (suc due)) =
 -- start not the first address of an item: error 02; else the run from there, for the words asked
 unfoldable pub runIn : List Item → ℕ → ℕ → Span
 runIn dir start words = onItem dir (findIn dir start 0) (λ first _. runFrom dir first 0 start words)
+
+-- the items of a run, and the words that some items send
+abbrev pub runItems : List Item → ℕ → ℕ → List Item
+runItems dir first count = take count (drop first dir)
+
+unfoldable pub wordsOf : List Item → ℕ
+wordsOf [] = 0
+wordsOf (it ∷ its) = it .words + wordsOf its
+
+-- STATEMENT: over any directory, the items of a run stand in it, and send just the words asked
+pub record RunSends : Type 0 where
+  pub inside : (dir : List Item) (start words first count : ℕ) → T (ruled dir) → runIn dir start words ≡ Items first count → first + count ≤ length dir
+  pub sends : (dir : List Item) (start words first count : ℕ) → T (ruled dir) → runIn dir start words ≡ Items first count → wordsOf (runItems dir first count) ≡ words

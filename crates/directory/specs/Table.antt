@@ -1,9 +1,6 @@
 -- Paper 01, "The directory": the 142 items, in the paper's blocks and order of addresses.
-use mathlib.Core.Path.{_≡_}
-use Prim.Native.Nat.{ℕ, _≤_, _<_}
-use mathlib.Core.Bool.{Bool, true}
+use Prim.Native.Nat.{ℕ}
 use mathlib.Core.List.{List, [], _∷_}
-use lib.ListN.{length, getD}
 use Rattle.directory.specs.declared.Item.{Item}
 use Rattle.directory.specs.Item.{item}
 use Rattle.directory.specs.Quantity.{voltage, current, power, signedPower, energyCount, low, high, wrap, factor, sign, sector, frequency, kta, ktv, sequence, plain, L1, L2, L3, L12, L23, L31, N, P, Q, P1, P2, P3, Q1, Q2, Q3, S, wholeS, posEa, negEa, posEr, negEr, hundredths, thousandths, zeros, byteIdentifier, wordIdentifier, setup2000, setup2200}

@@ -1,17 +1,16 @@
 -- Quotient and remainder by 100,000,000 give the count back, those by 1,000,000 the energy; the count times the step is
 -- the energy rounded down. The smallest step keeps the largest energy's wrap within a word.
-use mathlib.Core.Path.{_≡_, refl, ap, _∙_}
-use mathlib.Core.Bool.{Bool, true, false, _&&_, cond}
-use Prim.Native.Nat.{ℕ, _+_, _*_, _/_, _%_, _≤_, _<_}
+use mathlib.Core.Path.{_≡_}
+use mathlib.Core.Bool.{true}
+use Prim.Native.Nat.{ℕ, _≤_, _<_}
 use native.Mathlib.Nat.{div-add-mod', div-lt-iff-lt-mul, div-mul-le-self, lt-div-mul-add, mul-le-mul-left}
 use native.Mathlib.Omega.{arith}
-use lib.Dec.{leb}
 use borrow.Author.Tests.{le-leb}
 use Rattle.ratio.specs.declared.Ratios.{Ratios}
 use Rattle.ratio.specs.declared.WattHours.{WattHours}
 use Rattle.ratio.specs.declared.Joined.the-variants.{Energy}
 use Rattle.ratio.specs.Ratios.{ratiosOk, tOf}
-use Rattle.ratio.specs.Energies.{stepOf, countOf, registerOf, wrapOf, lowOf, highOf, energyOf, joinOf, joinHalvesOf, topWh, roundedOf, CountsFit, JoinSplit}
+use Rattle.ratio.specs.Energies.{stepOf, countOf, registerOf, wrapOf, lowOf, highOf, joinOf, joinHalvesOf, topWh, roundedOf, CountsFit, JoinSplit}
 use Rattle.ratio.proofs.Steps.{step-laws}
 
 wrap : (t : ℕ) (e : WattHours) → e .0 ≤ topWh → wrapOf t e < 65536

@@ -1,5 +1,5 @@
 -- Row by row of the table: no step is below 10 Wh, none above 100,000. What callers know of a step is this and no more.
-use Prim.Native.Nat.{ℕ, _≤_}
+use Prim.Native.Nat.{_≤_}
 use mathlib.Core.Bool.{Bool, true, false, cond}
 use native.Mathlib.Omega.{arith}
 use lib.Dec.{ltb}

@@ -2,7 +2,7 @@
 -- A register count is not yet an energy: `Count` and `WattHours` are kept apart until a step is applied.
 use mathlib.Core.Path.{_≡_}
 use Prim.Native.Nat.{ℕ, _+_, _*_, _/_, _%_, _≤_, _<_}
-use mathlib.Core.Bool.{Bool, true, false, _&&_, cond}
+use mathlib.Core.Bool.{true, _&&_, cond}
 use lib.Dec.{leb, ltb}
 use Rattle.refusal.specs.declared.Refusal.the-variants.{RatioOutOfLimits, JoinPastTop}
 use Rattle.ratio.specs.declared.Ratios.{Ratios}

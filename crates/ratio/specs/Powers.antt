@@ -1,7 +1,6 @@
 -- Paper 01, "Steps of the registers", Powers; the power limit of "The meter's record"; the power factor of "The
 -- directory". A power is a magnitude in hundredths of W, var or VA, a factor one in thousandths, each with a flag where
 -- it is negative.
-use mathlib.Core.Path.{_≡_}
 use Prim.Native.Nat.{ℕ, _/_, _^_, _≤_, _<_}
 use mathlib.Core.Bool.{Bool, cond}
 use lib.Dec.{ltb}

@@ -1,10 +1,10 @@
 -- What is sent has its length, is stored in parts, and is read back: each over any width, by taking off the lowest word.
-use mathlib.Core.Path.{_≡_, refl, sym, ap, _∙_}
+use mathlib.Core.Path.{_≡_, refl}
 use mathlib.Core.List.{List, [], _∷_, _++_, append-assoc}
 use Prim.Native.Nat.{ℕ, zero, suc, _+_, _*_, _/_, _%_, _^_, _≤_, _<_}
 use native.Mathlib.Nat.{add-zero, zero-add, zero-mul, mod-eq-of-lt, div-add-mod', div-lt-iff-lt-mul, pow-suc}
 use native.Mathlib.Omega.{arith}
-use lib.ListN.{length, getD, set, take, drop, length-append}
+use lib.ListN.{length, set, take, drop, length-append}
 use lib.Seq.{sets, sets-eq, length-take-le, getD-append-seam, getD-append-add}
 use Rattle.words.specs.Words.{word, sent, wordAt, valueAt, ReadBack}
 

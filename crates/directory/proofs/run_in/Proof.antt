@@ -1,13 +1,13 @@
 -- What is left of the run at the item of index i is the run itself, and finding the next address is looking at that item.
-use mathlib.Core.Path.{_≡_, refl, sym, ap, _∙_}
+use mathlib.Core.Path.{_≡_, sym, _∙_}
 use mathlib.Core.List.{List}
-use Prim.Native.Nat.{ℕ, _+_, _-_, _≤_, _<_}
+use Prim.Native.Nat.{_-_, _≤_, _<_}
 use native.Mathlib.Omega.{arith}
 use borrow.Author.Needs.{needs}
 use lib.ListN.{length, take, getD}
 use Rattle.directory.specs.declared.Item.{Item}
 use Rattle.directory.specs.declared.Found.the-variants.{At, Nothing}
-use Rattle.directory.specs.Item.{items, none, ends}
+use Rattle.directory.specs.Item.{items, none}
 use Rattle.directory.specs.Run.{findIn, runFrom, runIn}
 use Rattle.directory.proofs.Order.{Ascends, Narrow}
 use Rattle.directory.proofs.Views.{view-length, view-item, view-ascends, view-narrow}

@@ -1,5 +1,4 @@
 -- One test of both halves; as it falls, so does the definition.
-use borrow.Author.Tests.{lt-ltb, le-ltb}
 use Rattle.ratio.specs.Energies.{joinHalvesOf}
 use borrow.Author.Needs.{needs}
 use Rattle.ratio.proofs.join_halves.Statement.{statement}
