@@ -11,7 +11,7 @@ use lib.Dec.{leb, eqb, lit<}
 use lib.ListN.{length, getD, take, drop, length-append, take-append-drop, drop-of-length-le}
 use lib.Seq.{sets-eq, length-take-le, drop-cons, take-at, drop-at, getD-at, getD-append-add}
 use borrow.Author.Tests.{le-leb, eq-eqb, leb-true, eqb-true}
-use Rattle.crc.specs.Crc.{shift, shifts, crcFrom, crcOf, onLine, sealed, body, intact, IntactIsSealed, Put, PutSeals}
+use Rattle.crc.specs.Crc.{shift, shifts, crcFrom, crcOf, onLine, sealed, body, intact, CrcFits, IntactIsSealed, Put, PutSeals}
 
 passes : (bs : List ℕ) → intact (sealed bs) ≡ true
 unfolding intact
@@ -115,6 +115,5 @@ from-fits c [] h bytes = h
 from-fits c (b ∷ bs) h bytes =
     from-fits (shifts 8 (bitXor c b)) bs (shifts-fit 8 _ (xor-lt 16 c b h (omega (arith, bytes 0)))) (λ i. bytes (suc i))
 
--- the CRC of bytes is a number of 16 bits
-pub crc-fits : (bs : List ℕ) → ((i : ℕ) → getD bs i 0 < 2 ^ 8) → crcOf bs < 2 ^ 16
-crc-fits bs bytes = from-fits 0xFFFF bs (lit< tt) bytes
+pub crc-fits : CrcFits
+crc-fits = record { fits = λ bs bytes. from-fits 0xFFFF bs (lit< tt) bytes }

@@ -1,7 +1,7 @@
 -- Paper 01, "What the meter does with a frame", its CRC rule; the routine of documents 000, 001, 003 and 004 less the
 -- final swap, which only puts the low byte first on the line.
 use mathlib.Core.Path.{_≡_}
-use Prim.Native.Nat.{ℕ, zero, suc, _+_, _-_, _/_, _%_}
+use Prim.Native.Nat.{ℕ, zero, suc, _+_, _-_, _/_, _%_, _<_}
 use mathlib.Core.Bool.{Bool, true, false, _&&_, cond}
 use mathlib.Core.List.{List, [], _∷_, _++_}
 use lib.Bits.{bitXor}
@@ -45,6 +45,10 @@ intact frame =
     leb 2 (length frame) &&
     (eqb (getD frame (length frame - 2) 0) (crcOf (body frame) % 256) &&
     eqb (getD frame (length frame - 1) 0) (crcOf (body frame) / 256))
+
+-- STATEMENT: the CRC of bytes is a number of 16 bits
+pub record CrcFits : Type 0 where
+  pub fits : (bs : List ℕ) → ((i : ℕ) → getD bs i 0 < 256) → crcOf bs < 65536
 
 -- STATEMENT: a frame passes the test exactly when it is sealed
 pub record IntactIsSealed : Type 0 where

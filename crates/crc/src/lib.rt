@@ -1,4 +1,6 @@
 // The CRC that ends every frame (paper 01, "What the meter does with a frame").
+mod eight;
+
 ghost use mathlib.Core.Path.{_≡_};
 ghost use lib.Bits.{bitXor};
 ghost use Rattle.crc.specs.Crc.{shift, shifts, crcOf, intact, Put};
@@ -27,12 +29,12 @@ fn with_byte(crc: u16, b: u8) -> u16
     c
 }
 
-// The CRC of all bytes of a slice.
+// The CRC of all bytes of a slice: eight at a time while there are eight, then byte by byte.
 pub fn of(bytes: &[u8]) -> u16
     ensures { λ r. ⌜ r ≡ crcOf (now (bytes .entry)) ⌝ }
 {
-    let mut crc: u16 = 0xFFFF;
-    let mut i: usize = 0;
+    let mut crc = eight::words(bytes);
+    let mut i = bytes.len() / 8 * 8;
     while i < bytes.len() {
         crc = with_byte(crc, bytes[i]);
         i += 1;

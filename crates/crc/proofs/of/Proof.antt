@@ -1,5 +1,5 @@
 -- `of` is the written CRC: after i turns, the CRC so far goes on over the bytes from i to that of them all.
-use mathlib.Core.Path.{_≡_, refl, _∙_}
+use mathlib.Core.Path.{_≡_, _∙_}
 use mathlib.Core.List.{List}
 use Prim.Native.Nat.{ℕ, _-_, _+_, _≤_, _<_}
 use native.Mathlib.Numerals.{add-one}
@@ -17,8 +17,14 @@ Inv-loop bytes crc₀ i₀ crc i = (i ≤ length bytes) × (crcFrom crc (drop i 
 abbrev μ-loop : tie.MeasureT-loop
 μ-loop bytes crc₀ i₀ crc i = length bytes - i
 
+words-requires : tie.Need-words-requires Inv-loop μ-loop
+words-requires c κs = tt
+
+mul-i : tie.Need-mul-i Inv-loop μ-loop
+mul-i c = omega arith
+
 loop-holds : tie.Need-loop-holds Inv-loop μ-loop
-loop-holds c = (omega arith, refl)
+loop-holds c = (omega arith, c .words .ensures)
 
 shared-slice-read-with-byte : tie.Need-shared-slice-read-with-byte Inv-loop μ-loop
 shared-slice-read-with-byte c = omega arith
@@ -57,6 +63,8 @@ of-spec =
     (tie.spec
     Inv-loop
     μ-loop
+    words-requires
+    mul-i
     loop-holds
     shared-slice-read-with-byte
     with-byte-requires
