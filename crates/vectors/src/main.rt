@@ -56,48 +56,27 @@ fn frames_of_004() {
     );
 }
 
-// 001's answer of 0x2000: 16 words, in spite of the 16 BYTES beside its table.
-fn standard_setup() {
-    let mut f = [0u8; 37];
-    f[0] = 0xFF;
-    f[1] = 0x03;
-    f[2] = 0x20;
-    f[6] = 0x05;
-    f[10] = 0x03;
-    f[12] = 0x0A;
-    f[20] = 0x01;
-    f[22] = 0x01;
-    f[28] = 0x03;
-    f[30] = 0x02;
-    f[32] = 0x01;
-    f[35] = 0xBC;
-    f[36] = 0xB2;
-    frame(b"001 answer of 0x2000", &f);
-}
-
-// Answers of 0x2200: 001 prints 25 words where its byte number says 24, 000 the last two the other way round.
-fn output_setup() {
-    let mut printed = [0u8; 55];
-    printed[0] = 0xFF;
-    printed[1] = 0x03;
-    printed[2] = 0x30;
-    printed[50] = 0x02;
-    printed[52] = 0x01;
-    printed[53] = 0x6D;
-    printed[54] = 0xC1;
-    frame(b"001 answer of 0x2200, 25 words", &printed);
-    let mut f = [0u8; 53];
-    f[0] = 0xFF;
-    f[1] = 0x03;
-    f[2] = 0x30;
-    f[48] = 0x02;
-    f[50] = 0x01;
-    f[51] = 0x6D;
-    f[52] = 0xC1;
-    frame(b"001 answer of 0x2200, 24 words", &f);
-    f[48] = 0x01;
-    f[50] = 0x02;
-    frame(b"000 answer of 0x2200", &f);
+// 001's answer of 0x2000 has 16 words, in spite of the 16 BYTES beside its table. Of the answers of 0x2200, 001's shows 25
+// words where its byte number says 24, and 000's has the last two the other way round.
+fn frames_of_001() {
+    frame(b"001 demand of 0x2000", b"\xFF\x03\x20\x00\x00\x10\x5A\x18");
+    frame(
+        b"001 answer of 0x2000",
+        b"\xFF\x03\x20\x00\x00\x00\x05\x00\x00\x00\x03\x00\x0A\x00\x00\x00\x00\x00\x00\x00\x01\x00\x01\x00\x00\x00\x00\x00\x03\x00\x02\x00\x01\x00\x00\xBC\xB2",
+    );
+    frame(b"001 demand of 0x2200", b"\xFF\x03\x22\x00\x00\x18\x5A\x66");
+    frame(
+        b"001 answer of 0x2200, 25 words",
+        b"\xFF\x03\x30\x00\x00\x00\x00\x00\x00\x00\x00\x00\x00\x00\x00\x00\x00\x00\x00\x00\x00\x00\x00\x00\x00\x00\x00\x00\x00\x00\x00\x00\x00\x00\x00\x00\x00\x00\x00\x00\x00\x00\x00\x00\x00\x00\x00\x00\x00\x00\x02\x00\x01\x6D\xC1",
+    );
+    frame(
+        b"001 answer of 0x2200, 24 words",
+        b"\xFF\x03\x30\x00\x00\x00\x00\x00\x00\x00\x00\x00\x00\x00\x00\x00\x00\x00\x00\x00\x00\x00\x00\x00\x00\x00\x00\x00\x00\x00\x00\x00\x00\x00\x00\x00\x00\x00\x00\x00\x00\x00\x00\x00\x00\x00\x00\x00\x02\x00\x01\x6D\xC1",
+    );
+    frame(
+        b"000 answer of 0x2200",
+        b"\xFF\x03\x30\x00\x00\x00\x00\x00\x00\x00\x00\x00\x00\x00\x00\x00\x00\x00\x00\x00\x00\x00\x00\x00\x00\x00\x00\x00\x00\x00\x00\x00\x00\x00\x00\x00\x00\x00\x00\x00\x00\x00\x00\x00\x00\x00\x00\x00\x01\x00\x02\x6D\xC1",
+    );
 }
 
 // A value in one word and in two, and the two read back.
@@ -198,10 +177,7 @@ fn run(start: u16, asked: u16) {
 fn main() {
     frames_of_003();
     frames_of_004();
-    frame(b"001 demand of 0x2000", b"\xFF\x03\x20\x00\x00\x10\x5A\x18");
-    standard_setup();
-    frame(b"001 demand of 0x2200", b"\xFF\x03\x22\x00\x00\x18\x5A\x66");
-    output_setup();
+    frames_of_001();
     sent(1_000);
     sent(100_000);
     ratios(1, 99);
