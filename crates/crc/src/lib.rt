@@ -5,30 +5,6 @@ ghost use mathlib.Core.Path.{_≡_};
 ghost use lib.Bits.{bitXor};
 ghost use Rattle.crc.specs.Crc.{shift, shifts, crcOf, intact, Put};
 
-// One right shift. The branch is the written rule's own; the compiler turns the loop below it into table look-ups.
-fn shift(c: u16) -> u16
-    ensures { λ r. ⌜ r ≡ shift c ⌝ }
-{
-    if c & 1 == 1 {
-        (c >> 1) ^ 0xA001
-    } else {
-        c >> 1
-    }
-}
-
-// A byte exclusive-ored into the low half, then eight right shifts.
-fn with_byte(crc: u16, b: u8) -> u16
-    ensures { λ r. ⌜ r ≡ shifts 8 (bitXor crc b) ⌝ }
-{
-    let mut c = crc ^ b as u16;
-    let mut k: u32 = 0;
-    while k < 8 {
-        c = shift(c);
-        k += 1;
-    }
-    c
-}
-
 // The CRC of all bytes of a slice: eight at a time while there are eight, then byte by byte.
 pub fn of(bytes: &[u8]) -> u16
     ensures { λ r. ⌜ r ≡ crcOf (now (bytes .entry)) ⌝ }
@@ -68,4 +44,28 @@ pub fn put(buf: &mut [u8], n: usize) -> bool
     buf[n] = (crc % 256) as u8;
     buf[n + 1] = (crc / 256) as u8;
     true
+}
+
+// A byte exclusive-ored into the low half, then eight right shifts.
+fn with_byte(crc: u16, b: u8) -> u16
+    ensures { λ r. ⌜ r ≡ shifts 8 (bitXor crc b) ⌝ }
+{
+    let mut c = crc ^ b as u16;
+    let mut k: u32 = 0;
+    while k < 8 {
+        c = shift(c);
+        k += 1;
+    }
+    c
+}
+
+// One right shift. The branch is the written rule's own; the compiler turns the loop above into table look-ups.
+fn shift(c: u16) -> u16
+    ensures { λ r. ⌜ r ≡ shift c ⌝ }
+{
+    if c & 1 == 1 {
+        (c >> 1) ^ 0xA001
+    } else {
+        c >> 1
+    }
 }

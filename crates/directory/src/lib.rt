@@ -36,40 +36,34 @@ pub enum Span {
     Error(ErrorCode),
 }
 
-// The item of index i.
-pub fn item_at(t: &[u16], i: usize) -> Item
-    requires { ⌜ 4 * i + 4 ≤ length (now t) ⌝ }
-    ensures { λ r. ⌜ r ≡ getD (items (now (t .entry))) i none ⌝ }
+// The index in the meter's directory of the item that starts at an address.
+pub fn find(address: u16) -> Found
+    ensures { λ r. ⌜ r ≡ findIn directory address 0 ⌝ }
 {
-    let at = 4 * i;
-    Item {
-        start: t[at],
-        fills: t[at + 1],
-        words: t[at + 2],
-        quantity: t[at + 3],
-    }
+    find_in(&table::TABLE, ITEMS, address)
 }
 
-// The index of the item that starts at an address. The table ascends, so what is left of it is halved at each look.
-pub fn find_in(t: &[u16], n: usize, address: u16) -> Found
-    requires { ⌜ (4 * n ≤ length (now t)) × T (ruled (items (now t))) ⌝ }
-    ensures { λ r. ⌜ r ≡ findIn (take n (items (now (t .entry)))) address 0 ⌝ }
+// The run along the meter's directory.
+pub fn run(start: u16, words: u16) -> Span
+    ensures { λ r. ⌜ r ≡ runIn directory start words ⌝ }
 {
-    let mut low: usize = 0;
-    let mut high: usize = n;
-    while low < high {
-        let middle = low + (high - low) / 2;
-        let it = item_at(t, middle);
-        if it.start == address {
-            return Found::At(middle);
-        }
-        if it.start < address {
-            low = middle + 1;
-        } else {
-            high = middle;
-        }
+    run_in(&table::TABLE, ITEMS, start, words)
+}
+
+// Whether the setup word at an address may hold a value.
+pub fn setup_ok(address: u16, value: u16) -> bool
+    ensures { λ r. ⌜ r ≡ setupOk address value ⌝ }
+{
+    match address {
+        0x2005 => value <= 1,
+        0x200a => value <= 6,
+        0x200b => (value == 0) | (value == 3),
+        0x200c..=0x200e => value <= 10,
+        0x2215 => value <= 5,
+        0x2216 => value <= 6,
+        0x2217 => value <= 1,
+        _ => true,
     }
-    Found::Nothing
 }
 
 // The run for `words` words from `start`. An item that starts where the one before ends can only be the table's next,
@@ -106,32 +100,38 @@ pub fn run_in(t: &[u16], n: usize, start: u16, words: u16) -> Span
     }
 }
 
-// The index in the meter's directory of the item that starts at an address.
-pub fn find(address: u16) -> Found
-    ensures { λ r. ⌜ r ≡ findIn directory address 0 ⌝ }
+// The index of the item that starts at an address. The table ascends, so what is left of it is halved at each look.
+pub fn find_in(t: &[u16], n: usize, address: u16) -> Found
+    requires { ⌜ (4 * n ≤ length (now t)) × T (ruled (items (now t))) ⌝ }
+    ensures { λ r. ⌜ r ≡ findIn (take n (items (now (t .entry)))) address 0 ⌝ }
 {
-    find_in(&table::TABLE, ITEMS, address)
+    let mut low: usize = 0;
+    let mut high: usize = n;
+    while low < high {
+        let middle = low + (high - low) / 2;
+        let it = item_at(t, middle);
+        if it.start == address {
+            return Found::At(middle);
+        }
+        if it.start < address {
+            low = middle + 1;
+        } else {
+            high = middle;
+        }
+    }
+    Found::Nothing
 }
 
-// The run along the meter's directory.
-pub fn run(start: u16, words: u16) -> Span
-    ensures { λ r. ⌜ r ≡ runIn directory start words ⌝ }
+// The item of index i.
+pub fn item_at(t: &[u16], i: usize) -> Item
+    requires { ⌜ 4 * i + 4 ≤ length (now t) ⌝ }
+    ensures { λ r. ⌜ r ≡ getD (items (now (t .entry))) i none ⌝ }
 {
-    run_in(&table::TABLE, ITEMS, start, words)
-}
-
-// Whether the setup word at an address may hold a value.
-pub fn setup_ok(address: u16, value: u16) -> bool
-    ensures { λ r. ⌜ r ≡ setupOk address value ⌝ }
-{
-    match address {
-        0x2005 => value <= 1,
-        0x200a => value <= 6,
-        0x200b => (value == 0) | (value == 3),
-        0x200c..=0x200e => value <= 10,
-        0x2215 => value <= 5,
-        0x2216 => value <= 6,
-        0x2217 => value <= 1,
-        _ => true,
+    let at = 4 * i;
+    Item {
+        start: t[at],
+        fills: t[at + 1],
+        words: t[at + 2],
+        quantity: t[at + 3],
     }
 }

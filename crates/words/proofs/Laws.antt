@@ -1,12 +1,12 @@
 -- What is sent has its length, is stored in parts, and is read back: each over any width, by taking off the lowest word.
-use mathlib.Core.Path.{_≡_, refl}
+use mathlib.Core.Path.{_≡_, refl, _∙_}
 use mathlib.Core.List.{List, [], _∷_, _++_, append-assoc}
 use Prim.Native.Nat.{ℕ, zero, suc, _+_, _*_, _/_, _%_, _^_, _≤_, _<_}
-use native.Mathlib.Nat.{add-zero, zero-add, zero-mul, mod-eq-of-lt, div-add-mod', div-lt-iff-lt-mul, pow-suc}
+use native.Mathlib.Nat.{add-zero, zero-add, zero-mul, mod-eq-of-lt, div-eq-of-lt, div-add-mod', div-lt-iff-lt-mul, pow-suc}
 use native.Mathlib.Omega.{arith}
 use lib.ListN.{length, set, take, drop, length-append}
 use lib.Seq.{sets, sets-eq, length-take-le, getD-append-seam, getD-append-add}
-use Rattle.words.specs.Words.{word, sent, wordAt, valueAt, ReadBack}
+use Rattle.words.specs.Words.{word, sent, wordAt, valueAt, ByteSent, ReadBack}
 
 -- a run of stores in two parts
 pub sets-append : (l : List ℕ) (i : ℕ) (a b : List ℕ) → sets l i (a ++ b) ≡ sets (sets l i a) (i + length a) b
@@ -24,6 +24,10 @@ length-sent (suc n) v = simp length-append (omega (arith, length-sent n (v / 655
 pub sent-word : (v : ℕ) → sent 1 v ≡ word (v % 65536)
 unfolding sent
 sent-word v = refl
+
+pub byte-sent : ByteSent
+byte-sent =
+    record { bytes = λ v h. sent-word v ∙ rw (mod-eq-of-lt {n = v} {m = 65536} (omega arith), div-eq-of-lt h, mod-eq-of-lt h) refl }
 
 pub sent-long : (v : ℕ) → v < 65536 ^ 2 → sent 2 v ≡ word (v / 65536) ++ word (v % 65536)
 unfolding sent

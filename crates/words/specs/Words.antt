@@ -24,6 +24,10 @@ unfoldable pub valueAt : ℕ → List ℕ → ℕ → ℕ
 valueAt zero l at = 0
 valueAt (suc n) l at = valueAt n l at * 65536 + wordAt l (at + 2 * n)
 
+-- STATEMENT: B is sent as a word with upper byte 0
+pub record ByteSent : Type 0 where
+  pub bytes : (v : ℕ) → v < 256 → sent 1 v ≡ 0 ∷ v ∷ []
+
 -- STATEMENT: what was sent is read back, over any width and wherever it stands
 pub record ReadBack : Type 0 where
   pub between : (n v : ℕ) (before after : List ℕ) → v < 65536 ^ n → valueAt n (before ++ sent n v ++ after) (length before) ≡ v
