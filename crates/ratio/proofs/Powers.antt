@@ -2,23 +2,34 @@
 use Prim.Native.Nat.{ℕ, _/_, _^_, _≤_, _<_}
 use mathlib.Core.Bool.{Bool, true, false, cond}
 use native.Mathlib.Omega.{arith}
-use Rattle.ratio.specs.Powers.{hundredthsAt, powerLimit, powerRegister, PowersFit}
+use lib.Dec.{ltb}
+use Rattle.ratio.specs.Powers.{powerUnit, powerLimit, PowerLaws, PowersFit}
+
+some : (b : Bool) → 1 ≤ cond b 1 100
+some true = omega arith
+some false = omega arith
+
+most : (b : Bool) → cond b 1 100 ≤ 100
+most true = omega arith
+most false = omega arith
 
 limit : (b : Bool) → cond b 4294967295 214748364799 ≤ 214748364799
 limit true = omega arith
 limit false = omega arith
 
-register : (b : Bool) (x : ℕ) → x ≤ cond b 4294967295 214748364799 → cond b x (x / 100) < 65536 ^ 2
+pub power-laws : PowerLaws
+unfolding powerUnit powerLimit
+power-laws =
+    record { some = λ t. some (ltb t 50000); most = λ t. most (ltb t 50000); limit = λ t. limit (ltb t 50000) }
+
+register : (b : Bool) (x : ℕ) → x ≤ cond b 4294967295 214748364799 → x / cond b 1 100 < 65536 ^ 2
 register true x h = omega arith
 register false x h = omega arith
 
-signed : (b : Bool) (x : ℕ) → x ≤ cond b 4294967295 214748364799 → x / 100 < 2 ^ 31
-signed b x h = omega (arith, limit b)
-
 pub powers-fit : PowersFit
-unfolding powerLimit powerRegister
-powers-fit = record {
-  limit = λ t. limit (hundredthsAt t);
-  register = λ t. register (hundredthsAt t);
-  signed = λ t. signed (hundredthsAt t);
-}
+unfolding powerUnit powerLimit
+powers-fit =
+    record {
+      register = λ t. register (ltb t 50000);
+      signed = λ t x h. omega (arith, power-laws .limit t);
+    }

@@ -6,17 +6,17 @@ use mathlib.Core.Bool.{Bool, cond}
 use lib.Dec.{ltb}
 use Rattle.words.specs.Signed.{twos}
 
--- in hundredths if T < 50,000, else in whole units
-abbrev pub hundredthsAt : ℕ → Bool
-hundredthsAt t = ltb t 50000
+-- in hundredths if T < 50,000, else in whole units: the hundredths that one count of a power register stands for
+unfoldable pub powerUnit : ℕ → ℕ
+powerUnit t = cond (ltb t 50000) 1 100
 
 -- power limit: 4,294,967,295 if T < 50,000, else 214,748,364,799
 unfoldable pub powerLimit : ℕ → ℕ
-powerLimit t = cond (hundredthsAt t) 4294967295 214748364799
+powerLimit t = cond (ltb t 50000) 4294967295 214748364799
 
--- P, Q, S registers hold a magnitude, in hundredths if T < 50,000, else in whole units, rounded down
-unfoldable pub powerRegister : ℕ → ℕ → ℕ
-powerRegister t hundredths = cond (hundredthsAt t) hundredths (hundredths / 100)
+-- P, Q, S registers hold a magnitude in that unit, rounded down
+abbrev pub powerRegister : ℕ → ℕ → ℕ
+powerRegister t hundredths = hundredths / powerUnit t
 
 -- sign words: 0 for zero or more, 1 for negative
 abbrev pub signWord : Bool → ℕ
@@ -34,8 +34,13 @@ factorHundredths negative thousandths = twos 1 negative (thousandths / 10)
 abbrev pub factorThousandths : Bool → ℕ → ℕ
 factorThousandths negative thousandths = twos 2 negative thousandths
 
+-- STATEMENT: what callers may know of the unit and the limit
+pub record PowerLaws : Type 0 where
+  pub some : (t : ℕ) → 1 ≤ powerUnit t
+  pub most : (t : ℕ) → powerUnit t ≤ 100
+  pub limit : (t : ℕ) → powerLimit t ≤ 214748364799
+
 -- STATEMENT: what is within the limit fits its register, and in whole units also a signed L
 pub record PowersFit : Type 0 where
-  pub limit : (t : ℕ) → powerLimit t ≤ 214748364799
   pub register : (t x : ℕ) → x ≤ powerLimit t → powerRegister t x < 65536 ^ 2
   pub signed : (t x : ℕ) → x ≤ powerLimit t → x / 100 < 2 ^ 31

@@ -3,7 +3,7 @@
 ghost use mathlib.Core.Path.{_≡_};
 ghost use Prim.Native.Nat.{_≤_};
 ghost use Rattle.ratio.specs.Ratios.{ratiosOk, tOf};
-ghost use Rattle.ratio.specs.Powers.{powerLimit, powerRegister};
+ghost use Rattle.ratio.specs.Powers.{powerUnit, powerRegister, powerLimit};
 ghost use Rattle.ratio.specs.Energies.{stepOf, countOf, registerOf, wrapOf, lowOf, highOf, energyOf, joinOf, joinHalvesOf};
 use refusal::Refusal;
 
@@ -39,8 +39,22 @@ impl Ratios {
     }
 }
 
-// From this T on, powers are kept in whole units and may be larger.
+// From this T on, power registers count whole units, and powers may be larger.
 const WHOLE_UNITS_FROM: u32 = 50_000;
+
+// The hundredths of W, var or VA that one count of a power register stands for.
+pub fn power_unit(t: u32) -> u64
+    ensures { λ r. ⌜ r ≡ powerUnit t ⌝ }
+{
+    if t < WHOLE_UNITS_FROM { 1 } else { 100 }
+}
+
+// What a P, Q or S register holds of a magnitude in hundredths.
+pub fn power_register(t: u32, hundredths: u64) -> u64
+    ensures { λ r. ⌜ r ≡ powerRegister t hundredths ⌝ }
+{
+    hundredths / power_unit(t)
+}
 
 // The largest magnitude of a power, in hundredths.
 pub fn power_limit(t: u32) -> u64
@@ -50,17 +64,6 @@ pub fn power_limit(t: u32) -> u64
         4_294_967_295
     } else {
         214_748_364_799
-    }
-}
-
-// What a P, Q or S register holds of a magnitude in hundredths.
-pub fn power_register(t: u32, hundredths: u64) -> u64
-    ensures { λ r. ⌜ r ≡ powerRegister t hundredths ⌝ }
-{
-    if t < WHOLE_UNITS_FROM {
-        hundredths
-    } else {
-        hundredths / 100
     }
 }
 

@@ -90,24 +90,21 @@ fn sent(v: u32) {
     say::bytes(&w);
     say::text(b" or");
     say::bytes(&l);
-    say::text(b", read back ");
-    say::number(words::value_at(&l, 0, 2) as u64);
+    say::field(b", read back ", words::value_at(&l, 0, 2) as u64);
     say::text(b"\n");
 }
 
 // What follows from a pair of ratios.
 fn ratios(kta: u16, ktv: u16) {
     let t = Ratios { kta, ktv }.tenths();
-    say::text(b"KTA ");
-    say::number(kta as u64);
-    say::text(b", KTV ");
-    say::number(ktv as u64);
-    say::text(b": step ");
-    say::number(ratio::energy_step(t) as u64);
-    say::text(b" Wh, 12345 hundredths of a watt are shown as ");
-    say::number(ratio::power_register(t, 12_345));
-    say::text(b", at most ");
-    say::number(ratio::power_limit(t));
+    say::field(b"KTA ", kta as u64);
+    say::field(b", KTV ", ktv as u64);
+    say::field(b": step ", ratio::energy_step(t) as u64);
+    say::field(
+        b" Wh, 12345 hundredths of a watt are shown as ",
+        ratio::power_register(t, 12_345),
+    );
+    say::field(b", at most ", ratio::power_limit(t));
     say::text(b"\n");
 }
 
@@ -115,8 +112,7 @@ fn joined(j: Joined) {
     match j {
         Joined::Energy(e) => say::number(e.0),
         Joined::Refused(r) => {
-            say::text(b"refused ");
-            say::number(r.number() as u64);
+            say::field(b"refused ", r.number() as u64);
         }
     }
 }
@@ -128,14 +124,10 @@ fn energy(wh: u64) {
     let register = e.register(at.tenths());
     let wrap = e.wrap(at.tenths());
     say::number(wh);
-    say::text(b" Wh: register ");
-    say::number(register.0 as u64);
-    say::text(b", wrap ");
-    say::number(wrap);
-    say::text(b", Low ");
-    say::number(e.low() as u64);
-    say::text(b", High ");
-    say::number(e.high());
+    say::field(b" Wh: register ", register.0 as u64);
+    say::field(b", wrap ", wrap);
+    say::field(b", Low ", e.low() as u64);
+    say::field(b", High ", e.high());
     say::text(b", joined ");
     joined(ratio::join(at, register, (wrap % 65536) as u16));
     say::text(b" and ");
@@ -154,21 +146,18 @@ fn refusals() {
     say::text(b"\n");
 }
 
-// The run of a read: the quantities of its items, or the error code.
+// The run of a read: where its items start in the directory and how many they are, or the error code.
 fn run(start: u16, asked: u16) {
     say::number(asked as u64);
     say::text(b" words from 0x");
     say::hex(start as u64, 4);
     match directory::run(start, asked) {
         Span::Error(e) => {
-            say::text(b": error ");
-            say::number(e.number() as u64);
+            say::field(b": error ", e.number() as u64);
         }
         Span::Items { first, count } => {
-            say::text(b": items ");
-            say::number(first as u64);
-            say::text(b" on, ");
-            say::number(count as u64);
+            say::field(b": items ", first as u64);
+            say::field(b" on, ", count as u64);
         }
     }
     say::text(b"\n");

@@ -9,6 +9,12 @@ pub fn number(n: u64) {
     io::print_decimal(STDOUT_FILENO, n);
 }
 
+// A number behind its name.
+pub fn field(name: &[u8], n: u64) {
+    text(name);
+    number(n);
+}
+
 // A number in hexadecimal, at least `width` digits.
 pub fn hex(n: u64, width: usize) {
     io::print_hex(STDOUT_FILENO, n, width);

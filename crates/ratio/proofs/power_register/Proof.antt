@@ -1,16 +1,19 @@
--- The test is the definition's own.
-use borrow.Author.Tests.{lt-ltb, le-ltb}
-use Rattle.ratio.specs.Powers.{powerRegister}
+-- No unit is 0.
+use mathlib.Core.Path.{refl}
+use native.Mathlib.Omega.{arith}
+use Rattle.ratio.proofs.Powers.{power-laws}
+use borrow.Author.Needs.{needs}
 use Rattle.ratio.proofs.power_register.Statement.{statement}
 use Rattle.ratio.proofs.power_register.Tie as tie
 
-returns : tie.Need-returns
-unfolding powerRegister
-returns c = simp (lt-ltb _ _ (c .if1 .taken))
+power-unit-requires : tie.Need-power-unit-requires
+power-unit-requires c κs = search needs
 
-returns-2 : tie.Need-returns-2
-unfolding powerRegister
-returns-2 c = simp (le-ltb _ _ (c .if1 .left))
+div-result : tie.Need-div-result
+div-result c = omega (arith, power-laws .some (c .before .args .t))
+
+returns : tie.Need-returns
+returns c = rw (c .power-unit .ensures) refl
 
 pub power-register-spec : {M : Type 1} → statement M
-power-register-spec = tie.close (tie.spec returns returns-2)
+power-register-spec = tie.close (tie.spec power-unit-requires div-result returns)
