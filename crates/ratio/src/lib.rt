@@ -105,10 +105,7 @@ impl Count {
 pub struct WattHours(pub u64);
 
 impl WattHours {
-    // The largest energy that a meter keeps.
-    pub const TOP: u64 = 65_535_999_999_999;
-
-    // The largest Low and High of such an energy.
+    // The largest Low and High of an energy that a meter keeps.
     pub const LOW_TOP: u32 = 999_999;
 
     pub const HIGH_TOP: u32 = 65_535_999;

@@ -1,6 +1,5 @@
 -- No unit is 0.
 use mathlib.Core.Path.{refl}
-use native.Mathlib.Omega.{arith}
 use Rattle.ratio.proofs.Powers.{power-laws}
 use borrow.Author.Needs.{needs}
 use Rattle.ratio.proofs.power_register.Statement.{statement}
@@ -10,7 +9,7 @@ power-unit-requires : tie.Need-power-unit-requires
 power-unit-requires c κs = search needs
 
 div-result : tie.Need-div-result
-div-result c = omega (arith, power-laws .some (c .before .args .t))
+div-result c = rw (c .power-unit .ensures) (power-laws .some _)
 
 returns : tie.Need-returns
 returns c = rw (c .power-unit .ensures) refl
