@@ -1,5 +1,6 @@
 -- Paper 01, "The directory": setup ranges. Other words take any value.
-use Prim.Native.Nat.{ℕ}
+use Prim.Native.Nat.{ℕ, _+_}
+use mathlib.Core.List.{List, [], _∷_}
 use mathlib.Core.Bool.{Bool, true, _&&_, _||_, cond}
 use lib.Dec.{leb, eqb}
 
@@ -14,3 +15,8 @@ setupOk address value =
     (cond (eqb address 0x2216) (leb value 6)
     (cond (eqb address 0x2217) (leb value 1)
     true))))))
+
+-- the words of a group, from its first address on, may each hold their value
+unfoldable pub groupOk : ℕ → List ℕ → Bool
+groupOk address [] = true
+groupOk address (w ∷ ws) = setupOk address w && groupOk (address + 1) ws

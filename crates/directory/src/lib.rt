@@ -11,7 +11,7 @@ ghost use lib.Dec.{T};
 ghost use Rattle.directory.specs.Item.{items, none};
 ghost use Rattle.directory.specs.Order.{ruled};
 ghost use Rattle.directory.specs.Run.{findIn, runIn};
-ghost use Rattle.directory.specs.Setup.{setupOk};
+ghost use Rattle.directory.specs.Setup.{setupOk, groupOk};
 ghost use Rattle.directory.specs.Table.{directory};
 use refusal::ErrorCode;
 
@@ -64,6 +64,21 @@ pub fn setup_ok(address: u16, value: u16) -> bool
         0x2217 => value <= 1,
         _ => true,
     }
+}
+
+// Whether the words of a setup group, from its first address on, may each hold their value. Every word is looked at: with
+// a known address the ranges that take any value drop out of the compiled loop.
+pub fn group_ok(address: u16, words: &[u16]) -> bool
+    requires { ⌜ address + length (now words) ≤ 65536 ⌝ }
+    ensures { λ r. ⌜ r ≡ groupOk address (now (words .entry)) ⌝ }
+{
+    let mut ok = true;
+    let mut i = 0;
+    while i < words.len() {
+        ok = ok & setup_ok(address + i as u16, words[i]);
+        i += 1;
+    }
+    ok
 }
 
 // The run for `words` words from `start`. An item that starts where the one before ends can only be the table's next,

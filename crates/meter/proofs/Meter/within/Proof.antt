@@ -1,0 +1,44 @@
+use mathlib.Core.Path.{refl}
+use Rattle.meter.specs.Meters.{meterOk}
+use borrow.Author.Needs.{needs}
+use Rattle.meter.proofs.Meter.within.Statement.{statement}
+use Rattle.meter.proofs.Meter.within.Tie as tie
+
+within-requires : tie.Need-within-requires
+within-requires c κs = search needs
+
+within-requires-2 : tie.Need-within-requires-2
+within-requires-2 c κs = search needs
+
+within-requires-3 : tie.Need-within-requires-3
+within-requires-3 c κs = search needs
+
+tenths-requires : tie.Need-tenths-requires
+tenths-requires c κs = search needs
+
+within-requires-4 : tie.Need-within-requires-4
+within-requires-4 c κs = search needs
+
+setup-within-requires : tie.Need-setup-within-requires
+setup-within-requires c κs = search needs
+
+returns : tie.Need-returns
+unfolding meterOk
+returns c =
+    let e = c .before in
+    let t = e .before in
+    let q = t .before in
+    let p = q .before in
+    rw (p .before .within .ensures, p .within2 .ensures, q .within3 .ensures, e .within4 .ensures, t .tenths .ensures, c .setup-within .ensures) refl
+
+pub within-spec : {M : Type 1} → statement M
+within-spec =
+    tie.close
+    (tie.spec
+    within-requires
+    within-requires-2
+    within-requires-3
+    tenths-requires
+    within-requires-4
+    setup-within-requires
+    returns)

@@ -1,0 +1,133 @@
+-- What is known of a sample, an energy and a record that are within limits.
+use mathlib.Core.Path.{_≡_, ap}
+use mathlib.Core.Bool.{Bool, true, _&&_, _||_}
+use Prim.Native.Nat.{ℕ, _≤_}
+use native.Mathlib.Nat.{le-trans}
+use lib.Dec.{leb, eqb}
+use lib.IntN.{natAbs}
+use borrow.Author.Tests.{leb-true}
+use Rattle.ratio.specs.Ratios.{ratiosOk}
+use Rattle.ratio.specs.Powers.{powerLimit}
+use Rattle.ratio.specs.Energies.{topWh}
+use Rattle.ratio.proofs.Powers.{power-laws}
+use Rattle.meter.specs.declared.samples.Powers.{Powers}
+use Rattle.meter.specs.declared.samples.Sample.{Sample}
+use Rattle.meter.specs.declared.energies.Energy.{Energy}
+use Rattle.meter.specs.declared.energies.Energies.{Energies}
+use Rattle.meter.specs.declared.Meter.{Meter}
+use Rattle.meter.specs.Samples.{threeOf, factorOf, phasesOk, powersOk, sampleOk}
+use Rattle.meter.specs.Energies.{energyOk, energiesOk}
+use Rattle.meter.specs.Meters.{meterT, setupWithin, meterOk}
+use Rattle.meter.specs.Fits.{Held, Room}
+use Rattle.meter.proofs.Tests.{both}
+
+-- phases within the limit can be added
+pub phases-held : (t : ℕ) (p : Powers) → phasesOk (powerLimit t) p ≡ true → Held p
+phases-held t p h =
+    let limit = power-laws .limit t in
+    let c = both (leb (natAbs (p .l1)) (powerLimit t) && leb (natAbs (p .l2)) (powerLimit t)) (leb (natAbs (p .l3)) (powerLimit t)) h in
+    let d = both (leb (natAbs (p .l1)) (powerLimit t)) (leb (natAbs (p .l2)) (powerLimit t)) (c .0) in
+    record {
+      one = le-trans (leb-true _ _ (d .0)) limit;
+      two = le-trans (leb-true _ _ (d .1)) limit;
+      three = le-trans (leb-true _ _ (c .1)) limit;
+    }
+
+module _ (t : ℕ) (p : Powers) (h : powersOk t p ≡ true) where
+  pub powers-phases : phasesOk (powerLimit t) p ≡ true
+  powers-phases = both (phasesOk (powerLimit t) p) (leb (threeOf p .magnitude) (powerLimit t)) h .0
+
+  pub powers-sum : threeOf p .magnitude ≤ powerLimit t
+  powers-sum = leb-true _ _ (both (phasesOk (powerLimit t) p) (leb (threeOf p .magnitude) (powerLimit t)) h .1)
+
+-- the test of phases and sum, by what was found of the phases
+pub powers-by : (t : ℕ) (p : Powers) {found : Bool} → phasesOk (powerLimit t) p ≡ found → powersOk t p ≡ (found && leb (threeOf p .magnitude) (powerLimit t))
+powers-by t p h = ap (λ (b : Bool). b && leb (threeOf p .magnitude) (powerLimit t)) h
+
+pub record SampleParts (t : ℕ) (s : Sample) : Type 0 where
+  pub p : powersOk t (s .p) ≡ true
+  pub q : powersOk t (s .q) ≡ true
+  pub apparent : s .s ≤ powerLimit t
+  pub factor : factorOf (s .factor) .magnitude ≤ 1000
+  pub sector : s .sector ≤ 2
+  pub sequence : (eqb (s .sequence) 1 || eqb (s .sequence) 2) ≡ true
+
+pub sample-parts : (t : ℕ) (s : Sample) → sampleOk t s ≡ true → SampleParts t s
+unfolding sampleOk
+sample-parts t s h =
+    let p = powersOk t (s .p) in
+    let q = powersOk t (s .q) in
+    let a = leb (s .s) (powerLimit t) in
+    let f = leb (factorOf (s .factor) .magnitude) 1000 in
+    let n = leb (s .sector) 2 in
+    let h5 = both (p && q && a && f && n) (eqb (s .sequence) 1 || eqb (s .sequence) 2) h in
+    let h4 = both (p && q && a && f) n (h5 .0) in
+    let h3 = both (p && q && a) f (h4 .0) in
+    let h2 = both (p && q) a (h3 .0) in
+    let h1 = both p q (h2 .0) in
+    record {
+      p = h1 .0;
+      q = h1 .1;
+      apparent = leb-true _ _ (h2 .1);
+      factor = leb-true _ _ (h3 .1);
+      sector = leb-true _ _ (h4 .1);
+      sequence = h5 .1;
+    }
+
+pub record MeterParts (m : Meter) : Type 0 where
+  pub address : 1 ≤ m .address
+  pub ratios : ratiosOk (m .ratios) ≡ true
+  pub active : energiesOk (m .active) ≡ true
+  pub reactive : energiesOk (m .reactive) ≡ true
+  pub latest : sampleOk (meterT m) (m .latest) ≡ true
+  pub setup : setupWithin m ≡ true
+
+pub meter-parts : (m : Meter) → meterOk m ≡ true → MeterParts m
+unfolding meterOk
+meter-parts m h =
+    let a = leb 1 (m .address) in
+    let r = ratiosOk (m .ratios) in
+    let p = energiesOk (m .active) in
+    let q = energiesOk (m .reactive) in
+    let s = sampleOk (meterT m) (m .latest) in
+    let h5 = both (a && r && p && q && s) (setupWithin m) h in
+    let h4 = both (a && r && p && q) s (h5 .0) in
+    let h3 = both (a && r && p) q (h4 .0) in
+    let h2 = both (a && r) p (h3 .0) in
+    let h1 = both a r (h2 .0) in
+    record {
+      address = leb-true _ _ (h1 .0);
+      ratios = h1 .1;
+      active = h2 .1;
+      reactive = h3 .1;
+      latest = h4 .1;
+      setup = h5 .1;
+    }
+
+-- an energy within limits is at most its top
+pub energy-top : (e : Energy) → energyOk e ≡ true → e .wh .0 ≤ topWh
+energy-top e h = leb-true _ _ (both (leb (e .wh .0) topWh) (leb (e .remainder) 359999) h .0)
+
+-- a power within the limit has room in energies within limits
+pub energies-room : (es : Energies) (t : ℕ) (p : Powers) → energiesOk es ≡ true → powersOk t p ≡ true → Room es (threeOf p)
+energies-room es t p he hp =
+    let e = both (energyOk (es .positive)) (energyOk (es .negative)) he in
+    record {
+      positive = energy-top (es .positive) (e .0);
+      negative = energy-top (es .negative) (e .1);
+      most = le-trans (powers-sum t p hp) (power-laws .limit t);
+    }
+
+-- a record and a sample within limits can be counted
+module _ (m : Meter) (s : Sample) (hm : meterOk m ≡ true) (hs : sampleOk (meterT m) s ≡ true) where
+  pub held-p : Held (s .p)
+  held-p = phases-held (meterT m) (s .p) (powers-phases (meterT m) (s .p) (sample-parts (meterT m) s hs .p))
+
+  pub held-q : Held (s .q)
+  held-q = phases-held (meterT m) (s .q) (powers-phases (meterT m) (s .q) (sample-parts (meterT m) s hs .q))
+
+  pub room-active : Room (m .active) (threeOf (s .p))
+  room-active = energies-room (m .active) (meterT m) (s .p) (meter-parts m hm .active) (sample-parts (meterT m) s hs .p)
+
+  pub room-reactive : Room (m .reactive) (threeOf (s .q))
+  room-reactive = energies-room (m .reactive) (meterT m) (s .q) (meter-parts m hm .reactive) (sample-parts (meterT m) s hs .q)

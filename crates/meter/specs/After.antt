@@ -1,0 +1,37 @@
+-- Paper 01, "The meter's record": a sample covers one second.
+use mathlib.Core.Bool.{Bool, _&&_, cond}
+use Rattle.refusal.specs.declared.Refusal.the-variants.{MeterOutOfLimits, SampleOutOfLimits, EnergyPastTop}
+use Rattle.meter.specs.declared.samples.Sample.{Sample}
+use Rattle.meter.specs.declared.Meter.{Meter}
+use Rattle.meter.specs.declared.Answered.{Answered}
+use Rattle.meter.specs.Samples.{threeOf, sampleOk}
+use Rattle.meter.specs.Energies.{withPower, belowTop}
+use Rattle.meter.specs.Meters.{meterT, meterOk, refusedOf, acceptedOf}
+
+-- when accepted, it becomes the latest; 3-phase P is added to +Ea or -Ea; likewise Q
+abbrev pub nextOf : Meter → Sample → Meter
+nextOf m s =
+    record {
+      address = m .address;
+      ratios = m .ratios;
+      active = withPower (m .active) (threeOf (s .p));
+      reactive = withPower (m .reactive) (threeOf (s .q));
+      latest = s;
+      standard = m .standard;
+      output = m .output;
+    }
+
+-- none of the four energies is past its top
+abbrev pub meterBelowTop : Meter → Bool
+meterBelowTop m = belowTop (m .active) && belowTop (m .reactive)
+
+-- a sample: 1, then 5, then 6, the meter unchanged; else the next meter
+unfoldable pub afterOf : Meter → Sample → Answered
+afterOf m s =
+    cond (meterOk m)
+    (cond (sampleOk (meterT m) s)
+    (cond (meterBelowTop (nextOf m s))
+    (acceptedOf (nextOf m s))
+    (refusedOf EnergyPastTop m))
+    (refusedOf SampleOutOfLimits m))
+    (refusedOf MeterOutOfLimits m)

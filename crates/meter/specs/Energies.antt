@@ -1,0 +1,33 @@
+-- Paper 01, "The meter's record": the four energies, and what a second of a power adds to one.
+use Prim.Native.Nat.{ℕ, _+_, _*_, _/_, _%_}
+use mathlib.Core.Bool.{Bool, _&&_}
+use lib.Dec.{leb}
+use Rattle.signed.specs.declared.Signed.{Signed}
+use Rattle.signed.specs.Signs.{aboveOf, belowOf}
+use Rattle.ratio.specs.Energies.{topWh}
+use Rattle.meter.specs.declared.energies.Energy.{Energy}
+use Rattle.meter.specs.declared.energies.Energies.{Energies}
+
+-- whole Wh, 0 to 65,535,999,999,999, with a remainder of 0 to 359,999
+abbrev pub energyOk : Energy → Bool
+energyOk e = leb (e .wh .0) topWh && leb (e .remainder) 359999
+
+abbrev pub energiesOk : Energies → Bool
+energiesOk es = energyOk (es .positive) && energyOk (es .negative)
+
+-- an energy in hundredths of a watt-second: 1 Wh is 360,000 of these
+abbrev pub valueOf : Energy → ℕ
+valueOf e = e .wh .0 * 360000 + e .remainder
+
+-- a power for one second: whole 360,000s pass from remainder to Wh
+abbrev pub plusOf : Energy → ℕ → Energy
+plusOf e power =
+    record { wh = record { 0 = e .wh .0 + (e .remainder + power) / 360000 }; remainder = (e .remainder + power) % 360000 }
+
+-- a positive power is added to the one, the magnitude of a negative one to the other, zero to neither
+abbrev pub withPower : Energies → Signed → Energies
+withPower es power = record { positive = plusOf (es .positive) (aboveOf power); negative = plusOf (es .negative) (belowOf power) }
+
+-- neither energy is past its top
+abbrev pub belowTop : Energies → Bool
+belowTop es = leb (es .positive .wh .0) topWh && leb (es .negative .wh .0) topWh

@@ -1,0 +1,6 @@
+pub mod Samples
+pub mod Energies
+pub mod Meters
+pub mod After
+pub mod Histories
+pub mod Fits

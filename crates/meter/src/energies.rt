@@ -1,0 +1,66 @@
+// An energy: whole Wh (varh) and what is left over (paper 01, "The meter's record").
+ghost use mathlib.Core.Path.{_≡_};
+ghost use Prim.Native.Nat.{_≤_};
+ghost use Rattle.ratio.specs.Energies.{topWh};
+ghost use Rattle.meter.specs.Fits.{Room};
+ghost use Rattle.meter.specs.Energies.{energyOk, plusOf, energiesOk, belowTop, withPower};
+use crate::Meter;
+use ratio::WattHours;
+use signed::Signed;
+
+pub struct Energy {
+    pub wh: WattHours,
+    // In hundredths of a watt-second.
+    pub remainder: u32,
+}
+
+impl Energy {
+    pub(crate) fn within(self) -> bool
+        ensures { λ r. ⌜ r ≡ energyOk self ⌝ }
+    {
+        (self.wh.0 <= Meter::WH_TOP) & (self.remainder <= Meter::REMAINDER_TOP)
+    }
+
+    // One second of a power in hundredths of a watt: whole Wh pass from the remainder.
+    fn plus(self, power: u64) -> Energy
+        requires { ⌜ (self .wh .0 ≤ topWh) × (power ≤ 214748364799) ⌝ }
+        ensures { λ r. ⌜ r ≡ plusOf self power ⌝ }
+    {
+        let sum = self.remainder as u64 + power;
+        Energy {
+            wh: WattHours(self.wh.0 + sum / Meter::ONE_WH),
+            remainder: (sum % Meter::ONE_WH) as u32,
+        }
+    }
+}
+
+// The energy of one direction and that of the other: +Ea and -Ea, or +Er and -Er.
+pub struct Energies {
+    pub positive: Energy,
+    pub negative: Energy,
+}
+
+impl Energies {
+    pub(crate) fn within(self) -> bool
+        ensures { λ r. ⌜ r ≡ energiesOk self ⌝ }
+    {
+        self.positive.within() & self.negative.within()
+    }
+
+    pub(crate) fn below_top(self) -> bool
+        ensures { λ r. ⌜ r ≡ belowTop self ⌝ }
+    {
+        (self.positive.wh.0 <= Meter::WH_TOP) & (self.negative.wh.0 <= Meter::WH_TOP)
+    }
+
+    // One second of a 3-phase power.
+    pub(crate) fn plus(self, power: Signed) -> Energies
+        requires { ⌜ Room self power ⌝ }
+        ensures { λ r. ⌜ r ≡ withPower self power ⌝ }
+    {
+        Energies {
+            positive: self.positive.plus(power.above()),
+            negative: self.negative.plus(power.below()),
+        }
+    }
+}

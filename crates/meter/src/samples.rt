@@ -1,0 +1,104 @@
+// A second's measurements, as the metering chip hands them over (paper 01, "The meter's record").
+ghost use mathlib.Core.Path.{_≡_};
+ghost use Rattle.meter.specs.Fits.{Held};
+ghost use Rattle.meter.specs.Samples.{threeOf, factorOf, phasesOk, powersOk, sampleOk, noSample};
+use crate::Meter;
+use signed::Signed;
+
+// P or Q of each phase, in hundredths of W or var.
+pub struct Powers {
+    pub l1: i64,
+    pub l2: i64,
+    pub l3: i64,
+}
+
+impl Powers {
+    fn phases_within(self, limit: u64) -> bool
+        ensures { λ r. ⌜ r ≡ phasesOk limit self ⌝ }
+    {
+        let one = Signed::of(self.l1);
+        let two = Signed::of(self.l2);
+        let three = Signed::of(self.l3);
+        (one.magnitude <= limit) & (two.magnitude <= limit) & (three.magnitude <= limit)
+    }
+
+    // The 3-phase sum. Nobody else adds phases.
+    pub fn three(self) -> Signed
+        requires { ⌜ Held self ⌝ }
+        ensures { λ r. ⌜ r ≡ threeOf self ⌝ }
+    {
+        Signed::of(self.l1 + self.l2 + self.l3)
+    }
+
+    // Each phase and their sum. Phases beyond the limit are not added: their sum may not fit.
+    fn within(self, t: u32) -> bool
+        ensures { λ r. ⌜ r ≡ powersOk t self ⌝ }
+    {
+        let limit = ratio::power_limit(t);
+        if !self.phases_within(limit) {
+            return false;
+        }
+        let sum = self.three();
+        sum.magnitude <= limit
+    }
+}
+
+// Power factor, in thousandths.
+pub struct Factor(pub i16);
+
+impl Factor {
+    pub fn signed(self) -> Signed
+        ensures { λ r. ⌜ r ≡ factorOf self ⌝ }
+    {
+        Signed::of(self.0 as i64)
+    }
+}
+
+pub struct Sample {
+    // mV: L1, L2, L3, then chained L1-L2, L2-L3, L3-L1, as the directory numbers them.
+    pub voltages: [u32; 6],
+    // mA: L1, L2, L3, neutral, as the directory numbers them.
+    pub currents: [u32; 4],
+    pub p: Powers,
+    pub q: Powers,
+    // Apparent power, in hundredths of VA.
+    pub s: u64,
+    pub factor: Factor,
+    pub sector: u8,
+    pub sequence: u8,
+    // In tenths of Hz.
+    pub frequency: u16,
+}
+
+impl Sample {
+    // The sample of a new meter: 0, except sequence 1.
+    pub(crate) fn none() -> Sample
+        ensures { λ r. ⌜ r ≡ noSample ⌝ }
+    {
+        let idle = Powers { l1: 0, l2: 0, l3: 0 };
+        Sample {
+            voltages: [0u32; 6],
+            currents: [0u32; 4],
+            p: idle,
+            q: idle,
+            s: 0,
+            factor: Factor(0),
+            sector: 0,
+            sequence: 1,
+            frequency: 0,
+        }
+    }
+
+    // Whether each figure is within its limits at a ratio of t tenths.
+    pub fn within(self, t: u32) -> bool
+        ensures { λ r. ⌜ r ≡ sampleOk t self ⌝ }
+    {
+        let factor = self.factor.signed();
+        self.p.within(t)
+            & self.q.within(t)
+            & (self.s <= ratio::power_limit(t))
+            & (factor.magnitude <= Meter::FACTOR_TOP)
+            & (self.sector <= Meter::SECTOR_TOP)
+            & ((self.sequence == 1) | (self.sequence == 2))
+    }
+}

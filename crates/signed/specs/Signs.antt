@@ -1,0 +1,22 @@
+-- A signed number, as the paper speaks of one: its magnitude, and whether it is negative.
+use Prim.Native.Nat.{ℕ}
+use mathlib.Core.Bool.{Bool, true, false, cond}
+use lib.IntN.{ℤ, pos, negsuc, natAbs}
+use Rattle.signed.specs.declared.Signed.{Signed}
+
+-- zero is not negative
+abbrev pub negative : ℤ → Bool
+negative (pos n) = false
+negative (negsuc n) = true
+
+-- a number as its magnitude and its sign
+abbrev pub signedOf : ℤ → Signed
+signedOf number = record { negative = negative number; magnitude = natAbs number }
+
+-- a positive number itself, else 0
+abbrev pub aboveOf : Signed → ℕ
+aboveOf s = cond (s .negative) 0 (s .magnitude)
+
+-- the magnitude of a negative number, else 0
+abbrev pub belowOf : Signed → ℕ
+belowOf s = cond (s .negative) (s .magnitude) 0
