@@ -4,7 +4,7 @@ use mathlib.Core.Bool.{Bool, true, false}
 use lib.Dec.{T}
 use lib.ListN.{length}
 use Rattle.directory.specs.Table.{directory}
-use Rattle.directory.specs.Order.{ascends, every, ruled, shaped}
+use Rattle.directory.specs.Order.{ascends, every, ruled, shaped, meant}
 use Rattle.directory.specs.Rules.{DirectoryRules, placesOf, EnergyPlaces}
 use Rattle.directory.proofs.Order.{every-at, apart, ruled-ascends}
 use Rattle.directory.proofs.Finds.{found-here, found-starts}
@@ -17,6 +17,10 @@ directory-ruled = tt
 directory-shaped : T (every shaped directory)
 unfolding every directory
 directory-shaped = tt
+
+directory-meant : T (every meant directory)
+unfolding every directory
+directory-meant = tt
 
 passes : (b : Bool) → T b → b ≡ true
 passes true t = refl
@@ -31,6 +35,7 @@ directory-rules = record {
   count = directory-count;
   apart = apart (ruled-ascends directory directory-ruled);
   shapes = λ i h. passes _ (every-at shaped directory directory-shaped i h);
+  meanings = λ i h. passes _ (every-at meant directory directory-meant i h);
   found = λ i h. found-here (ruled-ascends directory directory-ruled) _ i h refl;
   starts = found-starts directory;
 }

@@ -1,10 +1,11 @@
 -- Paper 01, "The directory": the rules of a directory, as tests that are computed once over a whole table.
-use Prim.Native.Nat.{ℕ}
+use Prim.Native.Nat.{ℕ, _*_}
 use mathlib.Core.List.{List, [], _∷_}
 use mathlib.Core.Bool.{Bool, true, _&&_, _||_, cond}
 use lib.Dec.{leb, ltb, eqb}
 use Rattle.directory.specs.declared.Item.{Item}
 use Rattle.directory.specs.Item.{ends}
+use Rattle.directory.specs.Quantity.{widthOf}
 
 -- ascending, without overlap: each item fills something, and starts where the one before ends, or after
 unfoldable pub ascends : ℕ → List Item → Bool
@@ -30,3 +31,11 @@ shaped it =
     cond (ltb (it .start) 0x1000)
     (cond (eqb (it .words) 2) (eqb (it .fills) 4) (eqb (it .words) 1 && (eqb (it .fills) 2 || eqb (it .fills) 1)))
     ((eqb (it .words) 2 && eqb (it .fills) 2) || (eqb (it .words) 1 && eqb (it .fills) 1))
+
+-- the bytes that an item has room for: L 4, W 2, B 1
+abbrev pub roomOf : Item → ℕ
+roomOf it = cond (ltb (it .start) 0x1000) (it .fills) (2 * it .words)
+
+-- what an item shows is a quantity, and has room in it
+abbrev pub meant : Item → Bool
+meant it = leb 1 (widthOf (it .quantity)) && leb (widthOf (it .quantity)) (roomOf it)

@@ -1,6 +1,8 @@
 -- What an item shows, as a number: 64 × kind + which. The kinds are numbered from 1 in the order of paper 01's list of
 -- readings ("Collector"); `which` tells the quantities of a kind apart.
-use Prim.Native.Nat.{ℕ, _+_, _*_}
+use Prim.Native.Nat.{ℕ, _+_, _*_, _/_, _%_}
+use mathlib.Core.List.{List, [], _∷_}
+use lib.ListN.{getD, replicate}
 
 abbrev pub quantity : ℕ → ℕ → ℕ
 quantity kind which = 64 * kind + which
@@ -138,7 +140,33 @@ abbrev pub wordIdentifier : ℕ
 wordIdentifier = 2
 
 abbrev pub setup2000 : ℕ → ℕ
-setup2000 k = plain (8 + k)
+setup2000 k = plain (3 + k)
 
 abbrev pub setup2200 : ℕ → ℕ
-setup2200 k = plain (24 + k)
+setup2200 k = plain (19 + k)
+
+-- the bytes that each quantity takes, kind by kind and in the order above
+abbrev pub widths : List (List ℕ)
+widths =
+    [] ∷
+    replicate 6 4 ∷
+    replicate 4 4 ∷
+    replicate 10 4 ∷
+    replicate 8 4 ∷
+    replicate 4 4 ∷
+    replicate 4 4 ∷
+    replicate 4 4 ∷
+    replicate 4 2 ∷
+    (2 ∷ 4 ∷ []) ∷
+    replicate 8 1 ∷
+    (1 ∷ []) ∷
+    (2 ∷ []) ∷
+    (2 ∷ []) ∷
+    (2 ∷ []) ∷
+    (1 ∷ []) ∷
+    (1 ∷ 1 ∷ 2 ∷ replicate (16 + 24) 2) ∷
+    []
+
+-- the bytes that a quantity takes; none where the number is no quantity
+abbrev pub widthOf : ℕ → ℕ
+widthOf q = getD (getD widths (q / 64) []) (q % 64) 0

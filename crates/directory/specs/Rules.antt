@@ -10,15 +10,16 @@ use Rattle.directory.specs.declared.Found.the-variants.{At}
 use Rattle.directory.specs.Item.{none, ends}
 use Rattle.directory.specs.Quantity.{energyCount, low, high, wrap, posEa, negEa, posEr, negEr}
 use Rattle.directory.specs.Table.{directory}
-use Rattle.directory.specs.Order.{shaped}
+use Rattle.directory.specs.Order.{shaped, meant}
 use Rattle.directory.specs.Run.{findIn}
 
 -- STATEMENT: there are 142 items; of two the later starts where the earlier ends, or after; each has the shape of an L, W
--- or B of its block; each is found by its start, and what is found starts there
+-- or B of its block; each shows a quantity, and has room for it; each is found by its start, and what is found starts there
 pub record DirectoryRules : Type 0 where
   pub count : length directory ≡ 142
   pub apart : (i j : ℕ) → i < j → j < length directory → ends (getD directory i none) ≤ getD directory j none .start
   pub shapes : (i : ℕ) → i < length directory → shaped (getD directory i none) ≡ true
+  pub meanings : (i : ℕ) → i < length directory → meant (getD directory i none) ≡ true
   pub found : (i : ℕ) → i < length directory → findIn directory (getD directory i none .start) 0 ≡ At i
   pub starts : (address i : ℕ) → findIn directory address 0 ≡ At i → getD directory i none .start ≡ address
 

@@ -89,6 +89,6 @@ pub const BYTE_IDENTIFIER: u16 = 1;
 
 pub const WORD_IDENTIFIER: u16 = 2;
 
-pub const SETUP_2000: u16 = PLAIN + 8;
+pub const SETUP_2000: u16 = PLAIN + 3;
 
-pub const SETUP_2200: u16 = PLAIN + 24;
+pub const SETUP_2200: u16 = PLAIN + 19;

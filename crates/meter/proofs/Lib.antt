@@ -1,3 +1,6 @@
 pub mod Tests
 pub mod Parts
-pub mod Answers
+pub mod Cases
+pub mod Outcomes
+pub mod Within
+pub mod Sums

@@ -1,2 +1,51 @@
--- Demand 3's ground: what a meter's energies come to after any samples.
+-- Demand 3's ground: what the energies of a meter come to after any samples, refused ones among them.
 use mathlib.Core.Path.{_≡_}
+use Prim.Native.Nat.{ℕ, _+_}
+use mathlib.Core.Bool.{Bool, true, false, cond}
+use mathlib.Core.List.{List, [], _∷_}
+use lib.ListN.{getD}
+use Rattle.signed.specs.Signs.{aboveOf, belowOf}
+use Rattle.ratio.specs.declared.Ratios.{Ratios}
+use Rattle.meter.specs.declared.energies.Energy.{Energy}
+use Rattle.meter.specs.declared.samples.Sample.{Sample}
+use Rattle.meter.specs.declared.Answer.{Answer}
+use Rattle.meter.specs.declared.Answer.the-variants.{Accepted, Refused}
+use Rattle.meter.specs.declared.Meter.{Meter}
+use Rattle.meter.specs.Samples.{threeOf}
+use Rattle.meter.specs.Energies.{valueOf}
+use Rattle.meter.specs.Meters.{noEnergy, newOf}
+use Rattle.meter.specs.After.{afterOf}
+
+-- the four energies, in the order of the directory: +Ea, -Ea, +Er, -Er
+abbrev pub energiesOf : Meter → List Energy
+energiesOf m = m .active .positive ∷ m .active .negative ∷ m .reactive .positive ∷ m .reactive .negative ∷ []
+
+abbrev pub energyAt : ℕ → Meter → Energy
+energyAt e m = getD (energiesOf m) e noEnergy
+
+-- what a sample carries for each of them, in hundredths of a watt-second
+abbrev pub carriesOf : Sample → List ℕ
+carriesOf s = aboveOf (threeOf (s .p)) ∷ belowOf (threeOf (s .p)) ∷ aboveOf (threeOf (s .q)) ∷ belowOf (threeOf (s .q)) ∷ []
+
+abbrev pub carriesFor : ℕ → Sample → ℕ
+carriesFor e s = getD (carriesOf s) e 0
+
+-- an answer is no refusal
+abbrev pub isAccepted : Answer → Bool
+isAccepted Accepted = true
+isAccepted (Refused reason) = false
+
+-- the meter after a list of samples, one by one
+unfoldable pub afterAll : Meter → List Sample → Meter
+afterAll m [] = m
+afterAll m (s ∷ ss) = afterAll (afterOf m s .meter) ss
+
+-- the plain sum of what the accepted ones of them carry for an energy
+unfoldable pub exactOf : ℕ → Meter → List Sample → ℕ
+exactOf e m [] = 0
+exactOf e m (s ∷ ss) = cond (isAccepted (afterOf m s .answer)) (carriesFor e s) 0 + exactOf e (afterOf m s .meter) ss
+
+-- STATEMENT: for each energy, Wh × 360,000 + remainder is what it was plus that sum; from a new meter, that sum
+pub record EnergyIsSum : Type 0 where
+  pub grows : (e : ℕ) (m : Meter) (ss : List Sample) → valueOf (energyAt e (afterAll m ss)) ≡ valueOf (energyAt e m) + exactOf e m ss
+  pub from-new : (e address : ℕ) (ratios : Ratios) (ss : List Sample) → valueOf (energyAt e (afterAll (newOf address ratios .meter) ss)) ≡ exactOf e (newOf address ratios .meter) ss

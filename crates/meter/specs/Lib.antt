@@ -3,4 +3,5 @@ pub mod Energies
 pub mod Meters
 pub mod After
 pub mod Histories
+pub mod Answers
 pub mod Fits

@@ -35,7 +35,7 @@ meterOk m =
     sampleOk (meterT m) (m .latest) &&
     setupWithin m
 
-abbrev noEnergy : Energy
+abbrev pub noEnergy : Energy
 noEnergy = record { wh = record { 0 = 0 }; remainder = 0 }
 
 abbrev noEnergies : Energies

@@ -6,7 +6,7 @@ use borrow.Author.Tests.{not-true, not-false}
 use Rattle.meter.specs.Samples.{sampleOk}
 use Rattle.meter.specs.Meters.{meterT, meterOk}
 use Rattle.meter.specs.After.{nextOf, meterBelowTop}
-use Rattle.meter.proofs.Answers.{after-1, after-5, after-6, after-accepted}
+use Rattle.meter.proofs.Cases.{after-1, after-5, after-6, after-accepted}
 use borrow.Author.Needs.{needs}
 use Rattle.meter.proofs.Meter.after.Statement.{statement}
 use Rattle.meter.proofs.Meter.after.Tie as tie

@@ -5,7 +5,7 @@ use native.Mathlib.Omega.{arith}
 use lib.Dec.{eqb}
 use borrow.Author.Tests.{not-true, not-false, eq-eqb, ne-eqb}
 use Rattle.ratio.specs.Ratios.{ratiosOk}
-use Rattle.meter.proofs.Answers.{new-3, new-4, new-made}
+use Rattle.meter.proofs.Cases.{new-3, new-4, new-made}
 use borrow.Author.Needs.{needs}
 use Rattle.meter.proofs.Meter.new.Statement.{statement}
 use Rattle.meter.proofs.Meter.new.Tie as tie

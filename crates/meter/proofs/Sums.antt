@@ -1,0 +1,59 @@
+-- An energy is what it was plus what is carried for it: sample by sample, by one law for the four.
+use mathlib.Core.Path.{_≡_, refl, ap, _∙_}
+use mathlib.Core.Bool.{Bool, true, false, cond}
+use mathlib.Core.List.{List, [], _∷_}
+use Prim.Native.Nat.{ℕ, zero, suc, _+_}
+use native.Mathlib.Omega.{arith}
+use Rattle.refusal.specs.declared.Refusal.the-variants.{MeterOutOfLimits, SampleOutOfLimits, EnergyPastTop}
+use Rattle.ratio.specs.declared.Ratios.{Ratios}
+use Rattle.meter.specs.declared.energies.Energy.{Energy}
+use Rattle.meter.specs.declared.samples.Sample.{Sample}
+use Rattle.meter.specs.declared.Answered.{Answered}
+use Rattle.meter.specs.declared.Meter.{Meter}
+use Rattle.meter.specs.Samples.{sampleOk}
+use Rattle.meter.specs.Energies.{plusOf, valueOf}
+use Rattle.meter.specs.Meters.{meterT, meterOk, blankOf, refusedOf, acceptedOf, newOf}
+use Rattle.meter.specs.After.{nextOf, meterBelowTop, afterOf}
+use Rattle.meter.specs.Histories.{energyAt, carriesFor, isAccepted, afterAll, exactOf, EnergyIsSum}
+use Rattle.meter.proofs.Within.{new-blank}
+
+-- the carry loses nothing
+plus-value : (e : Energy) (x : ℕ) → valueOf (plusOf e x) ≡ valueOf e + x
+plus-value e x = omega arith
+
+-- each energy takes what is carried for it
+next-adds : (e : ℕ) (m : Meter) (s : Sample) → valueOf (energyAt e (nextOf m s)) ≡ valueOf (energyAt e m) + carriesFor e s
+next-adds zero m s = plus-value (m .active .positive) (carriesFor 0 s)
+next-adds (suc zero) m s = plus-value (m .active .negative) (carriesFor 1 s)
+next-adds (suc (suc zero)) m s = plus-value (m .reactive .positive) (carriesFor 2 s)
+next-adds (suc (suc (suc zero))) m s = plus-value (m .reactive .negative) (carriesFor 3 s)
+next-adds (suc (suc (suc (suc e)))) m s = refl
+
+-- one sample, by its tests
+picked-adds : (a b c : Bool) (e : ℕ) (m : Meter) (s : Sample) → let r : Answered = cond a (cond b (cond c (acceptedOf (nextOf m s)) (refusedOf EnergyPastTop m)) (refusedOf SampleOutOfLimits m)) (refusedOf MeterOutOfLimits m) in valueOf (energyAt e (r .meter)) ≡ valueOf (energyAt e m) + cond (isAccepted (r .answer)) (carriesFor e s) 0
+picked-adds true true true e m s = next-adds e m s
+picked-adds true true false e m s = omega arith
+picked-adds true false c e m s = omega arith
+picked-adds false b c e m s = omega arith
+
+after-adds : (e : ℕ) (m : Meter) (s : Sample) → valueOf (energyAt e (afterOf m s .meter)) ≡ valueOf (energyAt e m) + cond (isAccepted (afterOf m s .answer)) (carriesFor e s) 0
+unfolding afterOf
+after-adds e m s = picked-adds (meterOk m) (sampleOk (meterT m) s) (meterBelowTop (nextOf m s)) e m s
+
+grows : (e : ℕ) (m : Meter) (ss : List Sample) → valueOf (energyAt e (afterAll m ss)) ≡ valueOf (energyAt e m) + exactOf e m ss
+unfolding afterAll exactOf
+grows e m [] = omega arith
+grows e m (s ∷ ss) = omega (arith, grows e (afterOf m s .meter) ss, after-adds e m s)
+
+blank-zero : (e a : ℕ) (r : Ratios) → valueOf (energyAt e (blankOf a r)) ≡ 0
+blank-zero zero a r = refl
+blank-zero (suc zero) a r = refl
+blank-zero (suc (suc zero)) a r = refl
+blank-zero (suc (suc (suc zero))) a r = refl
+blank-zero (suc (suc (suc (suc e)))) a r = refl
+
+from-new : (e a : ℕ) (r : Ratios) (ss : List Sample) → valueOf (energyAt e (afterAll (newOf a r .meter) ss)) ≡ exactOf e (newOf a r .meter) ss
+from-new e a r ss = omega (arith, grows e (newOf a r .meter) ss, ap (λ (m : Meter). valueOf (energyAt e m)) (new-blank a r), blank-zero e a r)
+
+pub energy-is-sum : EnergyIsSum
+energy-is-sum = record { grows = grows; from-new = from-new }

@@ -1,0 +1,224 @@
+-- The answers of a new meter and of a sample as picks by tests; and what is within limits stays so.
+use mathlib.Core.Path.{_≡_, refl, sym, ap, _∙_, subst}
+use mathlib.Core.Logic.{_↔_}
+use mathlib.Core.Bool.{Bool, true, false, _&&_, cond, and-true, not}
+use mathlib.Core.List.{List, [], _∷_}
+use Prim.Native.Nat.{ℕ, _+_, _%_, _≤_, zero, suc, zero-le}
+use native.Mathlib.Omega.{arith}
+use lib.Dec.{leb, eqb}
+use lib.ListN.{replicate}
+use borrow.Author.Tests.{le-leb, leb-true, eqb-true, eqb-false, eq-eqb, ne-eqb}
+use Rattle.refusal.specs.declared.Refusal.{Refusal}
+use Rattle.refusal.specs.declared.Refusal.the-variants.{MeterOutOfLimits, RatioOutOfLimits, OwnAddressZero, SampleOutOfLimits, EnergyPastTop}
+use Rattle.refusal.specs.Numbers.{refusalNumber}
+use Rattle.signed.specs.declared.Signed.{Signed}
+use Rattle.signed.specs.Signs.{aboveOf, belowOf}
+use Rattle.ratio.specs.declared.Ratios.{Ratios}
+use Rattle.ratio.specs.Ratios.{ratiosOk, tOf}
+use Rattle.ratio.specs.Powers.{powerLimit}
+use Rattle.ratio.specs.Energies.{topWh}
+use Rattle.directory.specs.Setup.{groupOk, setupOk}
+use Rattle.meter.specs.declared.samples.Sample.{Sample}
+use Rattle.meter.specs.declared.energies.Energy.{Energy}
+use Rattle.meter.specs.declared.energies.Energies.{Energies}
+use Rattle.meter.specs.declared.Answer.{Answer}
+use Rattle.meter.specs.declared.Answer.the-variants.{Accepted, Refused}
+use Rattle.meter.specs.declared.Answered.{Answered}
+use Rattle.meter.specs.declared.Meter.{Meter}
+use Rattle.meter.specs.Samples.{threeOf, powersOk, sampleOk, noSample}
+use Rattle.meter.specs.Energies.{energyOk, energiesOk, plusOf, withPower, belowTop}
+use Rattle.meter.specs.Meters.{meterT, setupWithin, meterOk, blankOf, refusedOf, acceptedOf, newOf}
+use Rattle.meter.specs.After.{nextOf, meterBelowTop, afterOf}
+use Rattle.meter.specs.Histories.{afterAll}
+use Rattle.meter.specs.Answers.{NewAnswers, SampleAnswers, StaysWithin, withSetup, SetupIdle}
+use Rattle.meter.proofs.Tests.{both, never}
+use Rattle.meter.proofs.Parts.{meter-parts}
+use Rattle.meter.proofs.Cases.{after-accepted}
+use Rattle.meter.proofs.Outcomes.{firstOf, first-fails, second-fails, third-fails, none-fails, not-accepted}
+
+-- ---- a sample
+
+-- the answer and the meter, by the three tests
+picked : (a b c : Bool) (m n : Meter) → cond a (cond b (cond c (acceptedOf n) (refusedOf EnergyPastTop m)) (refusedOf SampleOutOfLimits m)) (refusedOf MeterOutOfLimits m) .answer ≡ firstOf MeterOutOfLimits SampleOutOfLimits EnergyPastTop a b c
+picked true true true m n = refl
+picked true true false m n = refl
+picked true false c m n = refl
+picked false b c m n = refl
+
+module _ (m : Meter) (s : Sample) where
+  answer : afterOf m s .answer ≡ firstOf MeterOutOfLimits SampleOutOfLimits EnergyPastTop (meterOk m) (sampleOk (meterT m) s) (meterBelowTop (nextOf m s))
+  unfolding afterOf
+  answer = picked (meterOk m) (sampleOk (meterT m) s) (meterBelowTop (nextOf m s)) m (nextOf m s)
+
+-- no two of the reasons are the same, since their numbers are not
+apart : {x y : Refusal} → (refusalNumber x ≡ refusalNumber y → ⊥) → x ≡ y → ⊥
+apart h e = h (ap refusalNumber e)
+
+one-five : MeterOutOfLimits ≡ SampleOutOfLimits → ⊥
+one-five = apart (λ h. omega arith)
+
+one-six : MeterOutOfLimits ≡ EnergyPastTop → ⊥
+one-six = apart (λ h. omega arith)
+
+five-six : SampleOutOfLimits ≡ EnergyPastTop → ⊥
+five-six = apart (λ h. omega arith)
+
+unchanged : (a b c : Bool) (m n : Meter) (reason : Refusal) → cond a (cond b (cond c (acceptedOf n) (refusedOf EnergyPastTop m)) (refusedOf SampleOutOfLimits m)) (refusedOf MeterOutOfLimits m) .answer ≡ Refused reason → cond a (cond b (cond c (acceptedOf n) (refusedOf EnergyPastTop m)) (refusedOf SampleOutOfLimits m)) (refusedOf MeterOutOfLimits m) .meter ≡ m
+unchanged true true true m n reason h = not-accepted (sym h)
+unchanged true true false m n reason h = refl
+unchanged true false c m n reason h = refl
+unchanged false b c m n reason h = refl
+
+refused : (m : Meter) (s : Sample) (reason : Refusal) → afterOf m s .answer ≡ Refused reason → afterOf m s .meter ≡ m
+unfolding afterOf
+refused m s = unchanged (meterOk m) (sampleOk (meterT m) s) (meterBelowTop (nextOf m s)) m (nextOf m s)
+
+accepted : (m : Meter) (s : Sample) → (afterOf m s .answer ≡ Accepted) ↔ ((meterOk m ≡ true) × (sampleOk (meterT m) s ≡ true) × (meterBelowTop (nextOf m s) ≡ true))
+accepted m s = rw (answer m s) (none-fails _ _ _ (meterOk m) (sampleOk (meterT m) s) (meterBelowTop (nextOf m s)))
+
+pub sample-answers : SampleAnswers
+sample-answers = record {
+  one = λ m s. rw (answer m s) (first-fails _ _ _ one-five one-six five-six (meterOk m) (sampleOk (meterT m) s) (meterBelowTop (nextOf m s)));
+  five = λ m s. rw (answer m s) (second-fails _ _ _ one-five one-six five-six (meterOk m) (sampleOk (meterT m) s) (meterBelowTop (nextOf m s)));
+  six = λ m s. rw (answer m s) (third-fails _ _ _ one-five one-six five-six (meterOk m) (sampleOk (meterT m) s) (meterBelowTop (nextOf m s)));
+  accepted = accepted;
+  refused = refused;
+  counted = λ m s h. let t = accepted m s .0 h in ap (λ (r : Answered). r .meter) (after-accepted m s (t .0) (t .1) (t .2));
+}
+
+-- ---- within limits
+
+-- what was added to is within limits where it is not past its top
+plus-within : (e : Energy) (x : ℕ) → energyOk (plusOf e x) ≡ leb (plusOf e x .wh .0) topWh
+plus-within e x = rw (le-leb ((e .remainder + x) % 360000) 359999 (omega arith)) (and-true (leb (plusOf e x .wh .0) topWh))
+
+powered-within : (es : Energies) (power : Signed) → energiesOk (withPower es power) ≡ belowTop (withPower es power)
+powered-within es power = λ i. plus-within (es .positive) (aboveOf power) i && plus-within (es .negative) (belowOf power) i
+
+next-within : (m : Meter) (s : Sample) → meterOk m ≡ true → sampleOk (meterT m) s ≡ true → meterBelowTop (nextOf m s) ≡ true → meterOk (nextOf m s) ≡ true
+unfolding meterOk
+next-within m s hm hs ht =
+    let k = meter-parts m hm in
+    let t = both (belowTop (nextOf m s .active)) (belowTop (nextOf m s .reactive)) ht in
+    let p = powered-within (m .active) (threeOf (s .p)) ∙ t .0 in
+    let q = powered-within (m .reactive) (threeOf (s .q)) ∙ t .1 in
+    λ i. le-leb 1 (m .address) (k .address) i && k .ratios i && p i && q i && hs i && k .setup i
+
+kept : (a b c : Bool) (m n : Meter) → meterOk m ≡ true → (a ≡ true → b ≡ true → c ≡ true → meterOk n ≡ true) → meterOk (cond a (cond b (cond c (acceptedOf n) (refusedOf EnergyPastTop m)) (refusedOf SampleOutOfLimits m)) (refusedOf MeterOutOfLimits m) .meter) ≡ true
+kept true true true m n h k = k refl refl refl
+kept true true false m n h k = h
+kept true false c m n h k = h
+kept false b c m n h k = h
+
+sample : (m : Meter) (s : Sample) → meterOk m ≡ true → meterOk (afterOf m s .meter) ≡ true
+unfolding afterOf
+sample m s h = kept (meterOk m) (sampleOk (meterT m) s) (meterBelowTop (nextOf m s)) m (nextOf m s) h (next-within m s)
+
+samples : (m : Meter) (ss : List Sample) → meterOk m ≡ true → meterOk (afterAll m ss) ≡ true
+unfolding afterAll
+samples m [] h = h
+samples m (s ∷ ss) h = samples (afterOf m s .meter) ss (sample m s h)
+
+pub stays-within : StaysWithin
+stays-within = record { sample = sample; samples = samples }
+
+-- ---- a new meter
+
+blank-sample : (t : ℕ) → sampleOk t noSample ≡ true
+unfolding sampleOk
+blank-sample t = rw (le-leb 0 (powerLimit t) zero-le) refl
+
+trues : (b : Bool) → (b && true && true && true && true) ≡ b
+trues true = refl
+trues false = refl
+
+blank-within : (a : ℕ) (r : Ratios) → meterOk (blankOf a r) ≡ (leb 1 a && ratiosOk r)
+unfolding meterOk groupOk setupOk
+blank-within a r = rw (blank-sample (tOf r)) (trues (leb 1 a && ratiosOk r))
+
+module _ (a : ℕ) (r : Ratios) where
+  new-picked : (x y : Bool) (m : Meter) → cond x (cond y (refusedOf OwnAddressZero m) (acceptedOf m)) (refusedOf RatioOutOfLimits m) .answer ≡ firstOf RatioOutOfLimits OwnAddressZero EnergyPastTop x (not y) true
+  new-picked true true m = refl
+  new-picked true false m = refl
+  new-picked false y m = refl
+
+  new-same : (x y : Bool) (m : Meter) → cond x (cond y (refusedOf OwnAddressZero m) (acceptedOf m)) (refusedOf RatioOutOfLimits m) .meter ≡ m
+  new-same true true m = refl
+  new-same true false m = refl
+  new-same false y m = refl
+
+  new-answer : newOf a r .answer ≡ firstOf RatioOutOfLimits OwnAddressZero EnergyPastTop (ratiosOk r) (not (eqb a 0)) true
+  unfolding newOf
+  new-answer = new-picked (ratiosOk r) (eqb a 0) (blankOf a r)
+
+  pub new-blank : newOf a r .meter ≡ blankOf a r
+  unfolding newOf
+  new-blank = new-same (ratiosOk r) (eqb a 0) (blankOf a r)
+
+-- an address is 0, or at least 1
+zero-no : (a : ℕ) → not (eqb a 0) ≡ leb 1 a
+zero-no zero = refl
+zero-no (suc n) = rw (ne-eqb (suc n) 0 (omega arith), le-leb 1 (suc n) (omega arith)) refl
+
+zero-is : (a : ℕ) → (not (eqb a 0) ≡ false) ↔ (a ≡ 0)
+zero-is zero = (λ h. refl, λ h. refl)
+zero-is (suc n) = (λ h. never (sym h ∙ zero-no (suc n) ∙ le-leb 1 (suc n) (omega arith)), λ h. absurd (omega arith))
+
+three-four : RatioOutOfLimits ≡ OwnAddressZero → ⊥
+three-four = apart (λ h. omega arith)
+
+three-six : RatioOutOfLimits ≡ EnergyPastTop → ⊥
+three-six = apart (λ h. omega arith)
+
+four-six : OwnAddressZero ≡ EnergyPastTop → ⊥
+four-six = apart (λ h. omega arith)
+
+four : (a : ℕ) (r : Ratios) → (newOf a r .answer ≡ Refused OwnAddressZero) ↔ ((ratiosOk r ≡ true) × (a ≡ 0))
+four a r =
+    let f = second-fails _ _ _ three-four three-six four-six (ratiosOk r) (not (eqb a 0)) true in
+    rw (new-answer a r) (λ h. (f .0 h .0, zero-is a .0 (f .0 h .1)), λ h. f .1 (h .0, zero-is a .1 (h .1)))
+
+new-accepted : (a : ℕ) (r : Ratios) → (newOf a r .answer ≡ Accepted) ↔ (meterOk (newOf a r .meter) ≡ true)
+new-accepted a r =
+    let f = none-fails RatioOutOfLimits OwnAddressZero EnergyPastTop (ratiosOk r) (not (eqb a 0)) true in
+    let within = ap meterOk (new-blank a r) ∙ blank-within a r in
+    rw (new-answer a r, within)
+    (λ h. let t = f .0 h in (λ i. (sym (zero-no a) ∙ t .1) i && t .0 i),
+    λ h. let t = both (leb 1 a) (ratiosOk r) h in f .1 (t .1, zero-no a ∙ t .0, refl))
+
+pub new-answers : NewAnswers
+new-answers = record {
+  three = λ a r. rw (new-answer a r) (first-fails _ _ _ three-four three-six four-six (ratiosOk r) (not (eqb a 0)) true);
+  four = four;
+  accepted = new-accepted;
+}
+
+-- ---- setup words have no effect
+
+module _ (m : Meter) (standard output : List ℕ) (s : Sample) where
+  abbrev other : Meter
+  other = withSetup m standard output
+
+  other-within : meterOk m ≡ true → setupWithin other ≡ true → meterOk other ≡ true
+  unfolding meterOk
+  other-within hm hs =
+      let k = meter-parts m hm in
+      λ i. le-leb 1 (m .address) (k .address) i && k .ratios i && k .active i && k .reactive i && k .latest i && hs i
+
+  abbrev answered : Bool → Bool → Meter → Meter → Answered
+  answered b c m n = cond b (cond c (acceptedOf n) (refusedOf EnergyPastTop m)) (refusedOf SampleOutOfLimits m)
+
+  abbrev changed : Answered → Answered
+  changed r = record { answer = r .answer; meter = withSetup (r .meter) standard output }
+
+  same : (b c : Bool) (n : Meter) → answered b c other (withSetup n standard output) ≡ changed (answered b c m n)
+  same true true n = refl
+  same true false n = refl
+  same false c n = refl
+
+  idle : meterOk m ≡ true → setupWithin other ≡ true → afterOf other s ≡ changed (afterOf m s)
+  unfolding afterOf
+  idle hm hs = rw (hm, other-within hm hs) (same (sampleOk (meterT m) s) (meterBelowTop (nextOf m s)) (nextOf m s))
+
+pub setup-idle : SetupIdle
+setup-idle = record { sample = idle }
