@@ -19,19 +19,21 @@ use Rattle.meter.specs.Samples.{threeOf, factorOf, phasesOk, powersOk, s
 use Rattle.meter.specs.Energies.{energyOk, energiesOk}
 use Rattle.meter.specs.Meters.{meterT, setupWithin, meterOk}
 use Rattle.meter.specs.Fits.{Held, Room}
-use Rattle.meter.proofs.Tests.{both}
+use Rattle.meter.proofs.Tests.{both, one-or-two}
 
--- phases within the limit can be added
+-- phases within a limit, one by one
+pub phases-most : (limit : ℕ) (p : Powers) → phasesOk limit p ≡ true → (natAbs (p .l1) ≤ limit) × (natAbs (p .l2) ≤ limit) × (natAbs (p .l3) ≤ limit)
+phases-most limit p h =
+    let c = both (leb (natAbs (p .l1)) limit && leb (natAbs (p .l2)) limit) (leb (natAbs (p .l3)) limit) h in
+    let d = both (leb (natAbs (p .l1)) limit) (leb (natAbs (p .l2)) limit) (c .0) in
+    (leb-true _ _ (d .0), leb-true _ _ (d .1), leb-true _ _ (c .1))
+
+-- and so they can be added
 pub phases-held : (t : ℕ) (p : Powers) → phasesOk (powerLimit t) p ≡ true → Held p
 phases-held t p h =
+    let l = phases-most (powerLimit t) p h in
     let limit = power-laws .limit t in
-    let c = both (leb (natAbs (p .l1)) (powerLimit t) && leb (natAbs (p .l2)) (powerLimit t)) (leb (natAbs (p .l3)) (powerLimit t)) h in
-    let d = both (leb (natAbs (p .l1)) (powerLimit t)) (leb (natAbs (p .l2)) (powerLimit t)) (c .0) in
-    record {
-      one = le-trans (leb-true _ _ (d .0)) limit;
-      two = le-trans (leb-true _ _ (d .1)) limit;
-      three = le-trans (leb-true _ _ (c .1)) limit;
-    }
+    record { one = le-trans (l .0) limit; two = le-trans (l .1) limit; three = le-trans (l .2) limit }
 
 module _ (t : ℕ) (p : Powers) (h : powersOk t p ≡ true) where
   pub powers-phases : phasesOk (powerLimit t) p ≡ true
@@ -50,7 +52,7 @@ pub record SampleParts (t : ℕ) (s : Sample) : Type 0 where
   pub apparent : s .s ≤ powerLimit t
   pub factor : factorOf (s .factor) .magnitude ≤ 1000
   pub sector : s .sector ≤ 2
-  pub sequence : (eqb (s .sequence) 1 || eqb (s .sequence) 2) ≡ true
+  pub sequence : (1 ≤ s .sequence) × (s .sequence ≤ 2)
 
 pub sample-parts : (t : ℕ) (s : Sample) → sampleOk t s ≡ true → SampleParts t s
 unfolding sampleOk
@@ -71,7 +73,7 @@ sample-parts t s h =
       apparent = leb-true _ _ (h2 .1);
       factor = leb-true _ _ (h3 .1);
       sector = leb-true _ _ (h4 .1);
-      sequence = h5 .1;
+      sequence = one-or-two (s .sequence) (h5 .1);
     }
 
 pub record MeterParts (m : Meter) : Type 0 where

@@ -1,0 +1,176 @@
+-- The lists of values, taken at an index: what is mapped over a list is the function of the list's element there.
+use mathlib.Core.Path.{_≡_, refl, sym, ap, _∙_}
+use mathlib.Core.Bool.{Bool, true, false}
+use mathlib.Core.List.{List, [], _∷_, _++_, map}
+use Prim.Native.Nat.{ℕ, zero, suc, _+_, _-_, _*_, _/_, _%_, _≤_, _<_, zero-le}
+use native.Mathlib.Nat.{zero-div, le-trans}
+use native.Mathlib.Omega.{arith}
+use lib.Dec.{ltb}
+use borrow.Author.Tests.{ltb-true, ltb-false}
+use lib.ListN.{length, getD, List·getD-map, List·getD-append, List·getD-eq-default}
+use lib.Seq.{getD-append-add}
+use Rattle.signed.specs.declared.Signed.{Signed}
+use Rattle.words.proofs.Signs.{twos-plain}
+use Rattle.ratio.specs.Powers.{powerLimit, powerRegister, signWord, signedPower}
+use Rattle.ratio.specs.Energies.{topWh, registerOf, wrapOf, lowOf, highOf}
+use Rattle.meter.specs.declared.samples.Sample.{Sample}
+use Rattle.meter.specs.declared.energies.Energy.{Energy}
+use Rattle.meter.specs.declared.energies.Energies.{Energies}
+use Rattle.meter.specs.declared.Meter.{Meter}
+use Rattle.meter.specs.Energies.{energyOk, energiesOk}
+use Rattle.meter.specs.Meters.{meterT, meterOk}
+use Rattle.meter.specs.Histories.{energiesOf, energyAt}
+use Rattle.meter.proofs.Tests.{both}
+use Rattle.meter.proofs.Parts.{meter-parts, sample-parts, phases-most, powers-phases, powers-sum, energy-top}
+use Rattle.registers.specs.Shown.{powersOf, powerAt, powerValues, signedValues, signValues, countValues, lowValues, highValues, wrapValues, plainValues, valuesOf, shownOf}
+
+each : {A : Type 0} (f : A → ℕ) (l : List A) (i : ℕ) (d : A) → f d ≡ 0 → getD (map f l) i 0 ≡ f (getD l i d)
+each f l i d z = ap (λ (n : ℕ). getD (map f l) i n) (sym z) ∙ List·getD-map f l i d
+
+-- ---- energies
+
+module _ (m : Meter) (which : ℕ) where
+  pub count-at : getD (countValues m) which 0 ≡ registerOf (meterT m) (energyAt which m .wh) .0
+  unfolding countValues
+  count-at = each (λ (e : Energy). registerOf (meterT m) (e .wh) .0) (energiesOf m) which _ (ap (λ (n : ℕ). n % 100000000) (zero-div _))
+
+  pub low-at : getD (lowValues m) which 0 ≡ lowOf (energyAt which m .wh)
+  unfolding lowValues
+  low-at = each (λ (e : Energy). lowOf (e .wh)) (energiesOf m) which _ refl
+
+  pub high-at : getD (highValues m) which 0 ≡ highOf (energyAt which m .wh)
+  unfolding highValues
+  high-at = each (λ (e : Energy). highOf (e .wh)) (energiesOf m) which _ refl
+
+  pub wrap-at : getD (wrapValues m) which 0 ≡ wrapOf (meterT m) (energyAt which m .wh)
+  unfolding wrapValues
+  wrap-at = each (λ (e : Energy). wrapOf (meterT m) (e .wh)) (energiesOf m) which _ (ap (λ (n : ℕ). n / 100000000) (zero-div _))
+
+-- an energy of a meter within limits is at most its top
+energies-top : (es : Energies) → energiesOk es ≡ true → (es .positive .wh .0 ≤ topWh) × (es .negative .wh .0 ≤ topWh)
+energies-top es h =
+    let t = both (energyOk (es .positive)) (energyOk (es .negative)) h in
+    (energy-top (es .positive) (t .0), energy-top (es .negative) (t .1))
+
+pub energy-most : (m : Meter) (which : ℕ) → meterOk m ≡ true → energyAt which m .wh .0 ≤ topWh
+energy-most m zero h = energies-top (m .active) (meter-parts m h .active) .0
+energy-most m (suc zero) h = energies-top (m .active) (meter-parts m h .active) .1
+energy-most m (suc (suc zero)) h = energies-top (m .reactive) (meter-parts m h .reactive) .0
+energy-most m (suc (suc (suc zero))) h = energies-top (m .reactive) (meter-parts m h .reactive) .1
+energy-most m (suc (suc (suc (suc which)))) h = zero-le
+
+-- ---- powers
+
+module _ (m : Meter) (which : ℕ) where
+  pub signed-at : getD (signedValues m) which 0 ≡ signedPower (powerAt (m .latest) which .negative) (powerAt (m .latest) which .magnitude)
+  unfolding signedValues powerAt
+  signed-at = each (λ (p : Signed). signedPower (p .negative) (p .magnitude)) (powersOf (m .latest)) which _ (twos-plain 2 0)
+
+  pub sign-at : getD (signValues m) which 0 ≡ signWord (powerAt (m .latest) which .negative)
+  unfolding signValues powerAt
+  sign-at = each (λ (p : Signed). signWord (p .negative)) (powersOf (m .latest)) which _ refl
+
+pub power-s : (m : Meter) → getD (powerValues m) 8 0 ≡ powerRegister (meterT m) (m .latest .s)
+unfolding powerValues
+power-s m = refl
+
+pub power-whole : (m : Meter) → getD (powerValues m) 9 0 ≡ m .latest .s / 100
+unfolding powerValues
+power-whole m = refl
+
+pub power-at : (m : Meter) (which : ℕ) → (which ≡ 8 → ⊥) → (which ≡ 9 → ⊥) → getD (powerValues m) which 0 ≡ powerRegister (meterT m) (powerAt (m .latest) which .magnitude)
+unfolding powerValues powerAt
+power-at m which not-s not-whole = by (ltb which 8) refl
+  where
+    f : Signed → ℕ
+    f p = powerRegister (meterT m) (p .magnitude)
+
+    none : Signed
+    none = record { negative = false; magnitude = 0 }
+
+    rest : List ℕ
+    rest = powerRegister (meterT m) (m .latest .s) ∷ m .latest .s / 100 ∷ []
+
+    by : (t : Bool) → ltb which 8 ≡ t → getD (map f (powersOf (m .latest)) ++ rest) which 0 ≡ f (getD (powersOf (m .latest)) which none)
+    by true h =
+        List·getD-append (map f (powersOf (m .latest))) rest 0 which (ltb-true which 8 h)
+        ∙ each f (powersOf (m .latest)) which none (zero-div _)
+    by false h =
+        List·getD-eq-default (map f (powersOf (m .latest)) ++ rest) 0 {n = which} (omega (arith, ltb-false which 8 h, not-s, not-whole))
+        ∙ sym (ap f (List·getD-eq-default (powersOf (m .latest)) none (ltb-false which 8 h)) ∙ zero-div _)
+
+-- the powers of a meter within limits are within the power limit
+abbrev Most : ℕ → List Signed → Type 0
+Most limit [] = Unit
+Most limit (p ∷ ps) = (p .magnitude ≤ limit) × Most limit ps
+
+most-at : (limit : ℕ) (ps : List Signed) → Most limit ps → (i : ℕ) → getD ps i (record { negative = false; magnitude = 0 }) .magnitude ≤ limit
+most-at limit [] h i = zero-le
+most-at limit (p ∷ ps) h zero = h .0
+most-at limit (p ∷ ps) h (suc i) = most-at limit ps (h .1) i
+
+pub power-most : (m : Meter) (which : ℕ) → meterOk m ≡ true → powerAt (m .latest) which .magnitude ≤ powerLimit (meterT m)
+unfolding powerAt
+power-most m which h =
+    let t = meterT m in
+    let s = sample-parts t (m .latest) (meter-parts m h .latest) in
+    let p = phases-most (powerLimit t) (m .latest .p) (powers-phases t (m .latest .p) (s .p)) in
+    let q = phases-most (powerLimit t) (m .latest .q) (powers-phases t (m .latest .q) (s .q)) in
+    most-at (powerLimit t) (powersOf (m .latest))
+    (powers-sum t (m .latest .p) (s .p), (powers-sum t (m .latest .q) (s .q), (p .0, (p .1, (p .2, (q .0, (q .1, (q .2, tt))))))))
+    which
+
+-- ---- plain words
+
+-- the words of two groups, numbered through
+pub second-at : (a b : List ℕ) (i : ℕ) → length a ≤ i → getD (a ++ b) i 0 ≡ getD b (i - length a) 0
+second-at a b i h = ap (λ (k : ℕ). getD (a ++ b) k 0) split ∙ getD-append-add a b (i - length a) 0
+  where
+    split : i ≡ length a + (i - length a)
+    split = omega (arith, h)
+
+pub plain-at : (m : Meter) (which : ℕ) → 3 ≤ which → getD (plainValues m) which 0 ≡ getD (m .standard ++ m .output) (which - 3) 0
+unfolding plainValues
+plain-at m zero h = absurd (omega arith)
+plain-at m (suc zero) h = absurd (omega arith)
+plain-at m (suc (suc zero)) h = absurd (omega arith)
+plain-at m (suc (suc (suc k))) h = ap (λ (i : ℕ). getD (m .standard ++ m .output) i 0) back
+  where
+    back : k ≡ suc (suc (suc k)) - 3
+    back = omega arith
+
+-- ---- kinds
+
+-- a number that is not k is beyond it
+pub onward : {n : ℕ} (k : ℕ) → k ≤ n → (n ≡ k → ⊥) → suc k ≤ n
+onward k h other = omega (arith, h, other)
+
+-- the same of a kind, by the first of its quantities
+pub kind-onward : (q k : ℕ) → k ≤ q / 64 → (q - q % 64 ≡ 64 * k → ⊥) → suc k ≤ q / 64
+kind-onward q k h other = onward k h (λ e. other (starts e))
+  where
+    starts : q / 64 ≡ k → q - q % 64 ≡ 64 * k
+    starts e = omega (arith, e)
+
+module _ (m : Meter) (q : ℕ) where
+  pub shown-kind : (k : ℕ) → q - q % 64 ≡ 64 * k → shownOf m q ≡ getD (getD (valuesOf m) k []) (q % 64) 0
+  unfolding shownOf
+  shown-kind k h = ap (λ (i : ℕ). getD (getD (valuesOf m) i []) (q % 64) 0) is
+    where
+      is : q / 64 ≡ k
+      is = omega (arith, h)
+
+  shown-below : q / 64 ≡ 0 → shownOf m q ≡ 0
+  unfolding shownOf
+  shown-below h = ap (λ (i : ℕ). getD (getD (valuesOf m) i []) (q % 64) 0) h
+
+  shown-beyond : 17 ≤ q / 64 → shownOf m q ≡ 0
+  unfolding shownOf
+  shown-beyond h = ap (λ (l : List ℕ). getD l (q % 64) 0) (List·getD-eq-default (valuesOf m) [] h)
+
+  pub shown-none : (1 ≤ q / 64 → 17 ≤ q / 64) → shownOf m q ≡ 0
+  shown-none h = by (ltb 0 (q / 64)) refl
+    where
+      by : (t : Bool) → ltb 0 (q / 64) ≡ t → shownOf m q ≡ 0
+      by true e = shown-beyond (h (ltb-true 0 (q / 64) e))
+      by false e = shown-below (omega (arith, ltb-false 0 (q / 64) e))

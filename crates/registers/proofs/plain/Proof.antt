@@ -1,0 +1,59 @@
+use mathlib.Core.Path.{refl, sym, _∙_}
+use Prim.Native.Nat.{_≤_, zero-le}
+use Rattle.registers.specs.Shown.{plainValues}
+use Rattle.registers.proofs.Values.{plain-at, onward}
+use borrow.Author.Needs.{needs}
+use Rattle.registers.proofs.plain.Statement.{statement}
+use Rattle.registers.proofs.plain.Tie as tie
+
+past : (c : tie.At-match-rest) → 3 ≤ c .before .before .before .args .which
+past c =
+    let r = c .match .rest in
+    onward 2 (onward 1 (onward 0 zero-le (r .0 .0 .1)) (r .0 .1)) (r .1)
+
+slice-aggregate-word-at : tie.Need-slice-aggregate-word-at
+slice-aggregate-word-at c = search needs
+
+slice-aggregate-word-at-2 : tie.Need-slice-aggregate-word-at-2
+slice-aggregate-word-at-2 c = search needs
+
+sub-word-at : tie.Need-sub-word-at
+sub-word-at c = search needs
+
+word-at-requires : tie.Need-word-at-requires
+word-at-requires c κs = search needs
+
+cast-result : tie.Need-cast-result
+cast-result c = search needs
+
+returns : tie.Need-returns
+unfolding plainValues
+returns c = rw (c .match .keys1) refl
+
+returns-2 : tie.Need-returns-2
+unfolding plainValues
+returns-2 c = rw (c .match .keys2) refl
+
+returns-3 : tie.Need-returns-3
+unfolding plainValues
+returns-3 c = rw (c .match .keys3) refl
+
+returns-4 : tie.Need-returns-4
+returns-4 c = 
+    let r = c .before .before .before in
+    let s = r .before .before .before in
+    c .word-at .ensures ∙ sym (plain-at (s .args .m) (s .args .which) (past r))
+
+pub plain-spec : {M : Type 1} → statement M
+plain-spec =
+    tie.close
+    (tie.spec
+    slice-aggregate-word-at
+    slice-aggregate-word-at-2
+    sub-word-at
+    word-at-requires
+    cast-result
+    returns
+    returns-2
+    returns-3
+    returns-4)

@@ -1,0 +1,96 @@
+-- Paper 01, "Steps of the registers" and "The directory": what a meter shows of each quantity. A quantity is 64 × kind +
+-- which; the kinds and, within a kind, the quantities stand in the order of the directory's `Quantity`.
+use Prim.Native.Nat.{ℕ, _/_, _%_}
+use mathlib.Core.Bool.{false}
+use mathlib.Core.List.{List, [], _∷_, _++_, map}
+use lib.ListN.{getD}
+use Rattle.signed.specs.declared.Signed.{Signed}
+use Rattle.signed.specs.Signs.{signedOf}
+use Rattle.ratio.specs.declared.WattHours.{WattHours}
+use Rattle.ratio.specs.Powers.{powerRegister, signWord, signedPower, factorHundredths, factorThousandths}
+use Rattle.ratio.specs.Energies.{registerOf, wrapOf, lowOf, highOf}
+use Rattle.meter.specs.declared.energies.Energy.{Energy}
+use Rattle.meter.specs.declared.samples.Sample.{Sample}
+use Rattle.meter.specs.declared.Meter.{Meter}
+use Rattle.meter.specs.Samples.{threeOf, factorOf}
+use Rattle.meter.specs.Meters.{meterT}
+use Rattle.meter.specs.Histories.{energiesOf}
+
+-- the signed powers: 3-phase P and Q, then P and Q phase by phase
+abbrev pub powersOf : Sample → List Signed
+powersOf s =
+    threeOf (s .p) ∷
+    threeOf (s .q) ∷
+    signedOf (s .p .l1) ∷
+    signedOf (s .p .l2) ∷
+    signedOf (s .p .l3) ∷
+    signedOf (s .q .l1) ∷
+    signedOf (s .q .l2) ∷
+    signedOf (s .q .l3) ∷
+    []
+
+unfoldable pub powerAt : Sample → ℕ → Signed
+powerAt s which = getD (powersOf s) which (record { negative = false; magnitude = 0 })
+
+-- P, Q, S registers hold a magnitude; S in whole VA besides
+unfoldable pub powerValues : Meter → List ℕ
+powerValues m =
+    map (λ (p : Signed). powerRegister (meterT m) (p .magnitude)) (powersOf (m .latest)) ++
+    (powerRegister (meterT m) (m .latest .s) ∷ m .latest .s / 100 ∷ [])
+
+-- signed words are whole W or var, cut toward zero
+unfoldable pub signedValues : Meter → List ℕ
+signedValues m = map (λ (p : Signed). signedPower (p .negative) (p .magnitude)) (powersOf (m .latest))
+
+-- sign words: 0 for zero or more, 1 for negative
+unfoldable pub signValues : Meter → List ℕ
+signValues m = map (λ (p : Signed). signWord (p .negative)) (powersOf (m .latest))
+
+-- the register is the count modulo 100,000,000
+unfoldable pub countValues : Meter → List ℕ
+countValues m = map (λ (e : Energy). registerOf (meterT m) (e .wh) .0) (energiesOf m)
+
+-- Low and High
+unfoldable pub lowValues : Meter → List ℕ
+lowValues m = map (λ (e : Energy). lowOf (e .wh)) (energiesOf m)
+
+unfoldable pub highValues : Meter → List ℕ
+highValues m = map (λ (e : Energy). highOf (e .wh)) (energiesOf m)
+
+-- the wrap word is the count divided by 100,000,000, rounded down
+unfoldable pub wrapValues : Meter → List ℕ
+wrapValues m = map (λ (e : Energy). wrapOf (meterT m) (e .wh)) (energiesOf m)
+
+-- power factor in hundredths, thousandths cut toward zero, and in thousandths
+unfoldable pub factorValues : Signed → List ℕ
+factorValues f = factorHundredths (f .negative) (f .magnitude) ∷ factorThousandths (f .negative) (f .magnitude) ∷ []
+
+-- plain words: zeros, the identifiers 0x11 and 0x1114, the setup words
+unfoldable pub plainValues : Meter → List ℕ
+plainValues m = 0 ∷ 0x11 ∷ 0x1114 ∷ (m .standard ++ m .output)
+
+-- what a meter shows, kind by kind in the order of paper 01's list of readings, from kind 1 on
+abbrev pub valuesOf : Meter → List (List ℕ)
+valuesOf m =
+    [] ∷
+    m .latest .voltages ∷
+    m .latest .currents ∷
+    powerValues m ∷
+    signedValues m ∷
+    countValues m ∷
+    lowValues m ∷
+    highValues m ∷
+    wrapValues m ∷
+    factorValues (factorOf (m .latest .factor)) ∷
+    signValues m ∷
+    (m .latest .sector ∷ []) ∷
+    (m .latest .frequency ∷ []) ∷
+    (m .ratios .kta ∷ []) ∷
+    (m .ratios .ktv ∷ []) ∷
+    (m .latest .sequence ∷ []) ∷
+    plainValues m ∷
+    []
+
+-- what it shows of a quantity; 0 where the number is none
+unfoldable pub shownOf : Meter → ℕ → ℕ
+shownOf m q = getD (getD (valuesOf m) (q / 64) []) (q % 64) 0

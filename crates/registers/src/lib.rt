@@ -1,0 +1,202 @@
+// What the registers show (paper 01, "Steps of the registers" and "The directory"): from a meter and a quantity to the value
+// that is sent for it. It goes by kind, then by which quantity of the kind; a number that is no quantity shows 0.
+ghost use mathlib.Core.Path.{_≡_};
+ghost use mathlib.Core.Bool.{true};
+ghost use mathlib.Core.List.{[], _∷_, _++_};
+ghost use Prim.Native.Nat.{_≤_};
+ghost use lib.ListN.{getD};
+ghost use Rattle.meter.specs.Samples.{factorOf};
+ghost use Rattle.meter.specs.Meters.{meterOk};
+ghost use Rattle.meter.specs.Histories.{energyAt};
+ghost use Rattle.registers.specs.Shown.{powerAt, powerValues, signedValues, signValues, countValues, lowValues, highValues, wrapValues, factorValues, plainValues, shownOf};
+use directory::quantity::*;
+use meter::Meter;
+use meter::samples::Factor;
+use ratio::WattHours;
+use signed::Signed;
+
+pub fn shown(m: Meter, quantity: u16) -> u32
+    requires { ⌜ meterOk m ≡ true ⌝ }
+    ensures { λ r. ⌜ r ≡ shownOf m quantity ⌝ }
+{
+    let which = quantity % 64;
+    let kind = quantity - which;
+    match kind {
+        VOLTAGE => voltage(m, which),
+        CURRENT => current(m, which),
+        POWER => power(m, which),
+        SIGNED_POWER => signed_power(m, which),
+        ENERGY_COUNT => count(m, which),
+        LOW => low(m, which),
+        HIGH => high(m, which),
+        WRAP => wrap(m, which),
+        FACTOR => factor(m.latest.factor, which),
+        SIGN => sign(m, which),
+        SECTOR => only(m.latest.sector as u16, which),
+        FREQUENCY => only(m.latest.frequency, which),
+        KTA => only(m.ratios.kta, which),
+        KTV => only(m.ratios.ktv, which),
+        SEQUENCE => only(m.latest.sequence as u16, which),
+        PLAIN => plain(m, which),
+        _ => 0,
+    }
+}
+
+fn voltage(m: Meter, which: u16) -> u32
+    ensures { λ r. ⌜ r ≡ getD (m .latest .voltages) which 0 ⌝ }
+{
+    let voltages = m.latest.voltages;
+    long_at(&voltages, which)
+}
+
+fn current(m: Meter, which: u16) -> u32
+    ensures { λ r. ⌜ r ≡ getD (m .latest .currents) which 0 ⌝ }
+{
+    let currents = m.latest.currents;
+    long_at(&currents, which)
+}
+
+fn long_at(longs: &[u32], which: u16) -> u32
+    ensures { λ r. ⌜ r ≡ getD (now (longs .entry)) which 0 ⌝ }
+{
+    let i = which as usize;
+    if i < longs.len() { longs[i] } else { 0 }
+}
+
+// Registers of P, Q and S hold magnitudes in the ratio's unit; S stands in whole VA besides.
+fn power(m: Meter, which: u16) -> u32
+    requires { ⌜ meterOk m ≡ true ⌝ }
+    ensures { λ r. ⌜ r ≡ getD (powerValues m) which 0 ⌝ }
+{
+    let t = m.ratios.tenths();
+    match which {
+        S => ratio::power_register(t, m.latest.s) as u32,
+        WHOLE_S => (m.latest.s / 100) as u32,
+        _ => {
+            let p = signed_at(m, which);
+            ratio::power_register(t, p.magnitude) as u32
+        }
+    }
+}
+
+// Whole W or var: dividing the magnitude cuts toward zero, and a number cut to zero has no sign.
+fn signed_power(m: Meter, which: u16) -> u32
+    requires { ⌜ meterOk m ≡ true ⌝ }
+    ensures { λ r. ⌜ r ≡ getD (signedValues m) which 0 ⌝ }
+{
+    let p = signed_at(m, which);
+    words::twos_long(p.negative, (p.magnitude / 100) as u32)
+}
+
+fn sign(m: Meter, which: u16) -> u32
+    requires { ⌜ meterOk m ≡ true ⌝ }
+    ensures { λ r. ⌜ r ≡ getD (signValues m) which 0 ⌝ }
+{
+    let p = signed_at(m, which);
+    if p.negative { 1 } else { 0 }
+}
+
+// The signed powers of the latest sample.
+fn signed_at(m: Meter, which: u16) -> Signed
+    requires { ⌜ meterOk m ≡ true ⌝ }
+    ensures { λ r. ⌜ r ≡ powerAt (m .latest) which ⌝ }
+{
+    let p = m.latest.p;
+    let q = m.latest.q;
+    match which {
+        P => p.three(),
+        Q => q.three(),
+        P1 => Signed::of(p.l1),
+        P2 => Signed::of(p.l2),
+        P3 => Signed::of(p.l3),
+        Q1 => Signed::of(q.l1),
+        Q2 => Signed::of(q.l2),
+        Q3 => Signed::of(q.l3),
+        _ => Signed {
+            negative: false,
+            magnitude: 0,
+        },
+    }
+}
+
+fn count(m: Meter, which: u16) -> u32
+    ensures { λ r. ⌜ r ≡ getD (countValues m) which 0 ⌝ }
+{
+    let register = energy_at(m, which).register(m.ratios.tenths());
+    register.0
+}
+
+fn low(m: Meter, which: u16) -> u32
+    ensures { λ r. ⌜ r ≡ getD (lowValues m) which 0 ⌝ }
+{
+    energy_at(m, which).low()
+}
+
+fn high(m: Meter, which: u16) -> u32
+    requires { ⌜ meterOk m ≡ true ⌝ }
+    ensures { λ r. ⌜ r ≡ getD (highValues m) which 0 ⌝ }
+{
+    energy_at(m, which).high() as u32
+}
+
+fn wrap(m: Meter, which: u16) -> u32
+    requires { ⌜ meterOk m ≡ true ⌝ }
+    ensures { λ r. ⌜ r ≡ getD (wrapValues m) which 0 ⌝ }
+{
+    energy_at(m, which).wrap(m.ratios.tenths()) as u32
+}
+
+fn energy_at(m: Meter, which: u16) -> WattHours
+    ensures { λ r. ⌜ r ≡ energyAt which m .wh ⌝ }
+{
+    match which {
+        POS_EA => m.active.positive.wh,
+        NEG_EA => m.active.negative.wh,
+        POS_ER => m.reactive.positive.wh,
+        NEG_ER => m.reactive.negative.wh,
+        _ => WattHours(0),
+    }
+}
+
+fn factor(f: Factor, which: u16) -> u32
+    requires { ⌜ factorOf f .magnitude ≤ 1000 ⌝ }
+    ensures { λ r. ⌜ r ≡ getD (factorValues (factorOf f)) which 0 ⌝ }
+{
+    let thousandths = f.signed();
+    match which {
+        HUNDREDTHS => words::twos_word(thousandths.negative, (thousandths.magnitude / 10) as u16) as u32,
+        THOUSANDTHS => words::twos_long(thousandths.negative, thousandths.magnitude as u32),
+        _ => 0,
+    }
+}
+
+// The value of a kind that has one quantity.
+fn only(value: u16, which: u16) -> u32
+    ensures { λ r. ⌜ r ≡ getD (value ∷ []) which 0 ⌝ }
+{
+    if which == 0 { value as u32 } else { 0 }
+}
+
+fn plain(m: Meter, which: u16) -> u32
+    ensures { λ r. ⌜ r ≡ getD (plainValues m) which 0 ⌝ }
+{
+    let standard = m.standard;
+    let output = m.output;
+    match which {
+        ZEROS => 0,
+        BYTE_IDENTIFIER => 0x11,
+        WORD_IDENTIFIER => 0x1114,
+        _ => word_at(&standard, &output, which as usize - 3) as u32,
+    }
+}
+
+// The words of two groups, numbered through.
+fn word_at(first: &[u16], second: &[u16], i: usize) -> u16
+    ensures { λ r. ⌜ r ≡ getD (now (first .entry) ++ now (second .entry)) i 0 ⌝ }
+{
+    if i < first.len() {
+        return first[i];
+    }
+    let j = i - first.len();
+    if j < second.len() { second[j] } else { 0 }
+}
