@@ -1,29 +1,28 @@
--- A group's words, tested one by one: what is left of the test is the test itself.
-use mathlib.Core.Path.{_≡_, refl}
+-- A group's words by their indices, so that its test computes: what is left of it are the words that have a range.
+use mathlib.Core.Path.{_≡_, ap, _∙_}
 use mathlib.Core.List.{List, [], _∷_}
-use mathlib.Core.Bool.{Bool, true, _&&_, and-assoc, and-true}
-use Prim.Native.Nat.{ℕ, suc, _+_, _<_, _≤_}
-use native.Mathlib.Nat.{add-zero}
+use mathlib.Core.Bool.{_&&_, and-assoc, and-true}
+use Prim.Native.Nat.{ℕ, zero, suc, _+_}
 use native.Mathlib.Omega.{arith}
-use native.Mathlib.Numerals.{add-one}
 use lib.ListN.{length, getD, drop, drop-of-length-le}
 use lib.Seq.{drop-cons}
 use Rattle.directory.specs.Setup.{setupOk, groupOk}
 
--- the test of the words from index i on, behind what was found of those before
-abbrev pub left : ℕ → List ℕ → Bool → ℕ → Bool
-left address ws ok i = ok && groupOk (address + i) (drop i ws)
+-- n words from index i on
+row : ℕ → ℕ → List ℕ → List ℕ
+row i zero l = []
+row i (suc n) l = getD l i 0 ∷ row (suc i) n l
 
-pub group-starts : (address : ℕ) (ws : List ℕ) → left address ws true 0 ≡ groupOk address ws
-group-starts address ws = rw add-zero refl
+row-is : (n i : ℕ) (l : List ℕ) → length l ≡ i + n → drop i l ≡ row i n l
+unfolding row
+row-is zero i l h = drop-of-length-le l {i = i} (omega (arith, h))
+row-is (suc n) i l h =
+    drop-cons l i 0 (omega (arith, h)) ∙ ap (λ (r : List ℕ). getD l i 0 ∷ r) (row-is n (suc i) l (omega (arith, h)))
 
-pub group-turn : (address : ℕ) (ws : List ℕ) (ok : Bool) (i : ℕ) → i < length ws → left address ws (ok && setupOk (address + i) (getD ws i 0)) (i + 1) ≡ left address ws ok i
-unfolding groupOk
-group-turn address ws ok i h = rw (drop-cons ws i 0 h, add-one, and-assoc, next) refl
-  where
-    next : address + suc i ≡ address + i + 1
-    next = omega arith
+pub standard-is : (l : List ℕ) → length l ≡ 16 → groupOk 0x2000 l ≡ (setupOk 0x2005 (getD l 5 0) && setupOk 0x200a (getD l 10 0) && setupOk 0x200b (getD l 11 0) && setupOk 0x200c (getD l 12 0) && setupOk 0x200d (getD l 13 0) && setupOk 0x200e (getD l 14 0))
+unfolding row groupOk setupOk
+standard-is l h = ap (groupOk 0x2000) (row-is 16 0 l h) ∙ simp (and-assoc, and-true)
 
-pub group-ends : (address : ℕ) (ws : List ℕ) (ok : Bool) (i : ℕ) → length ws ≤ i → left address ws ok i ≡ ok
-unfolding groupOk
-group-ends address ws ok i h = rw (drop-of-length-le ws h) (and-true ok)
+pub output-is : (l : List ℕ) → length l ≡ 24 → groupOk 0x2200 l ≡ (setupOk 0x2215 (getD l 21 0) && setupOk 0x2216 (getD l 22 0) && setupOk 0x2217 (getD l 23 0))
+unfolding row groupOk setupOk
+output-is l h = ap (groupOk 0x2200) (row-is 24 0 l h) ∙ simp (and-assoc, and-true)

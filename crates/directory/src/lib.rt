@@ -66,19 +66,23 @@ pub fn setup_ok(address: u16, value: u16) -> bool
     }
 }
 
-// Whether the words of a setup group, from its first address on, may each hold their value. Every word is looked at: with
-// a known address the ranges that take any value drop out of the compiled loop.
-pub fn group_ok(address: u16, words: &[u16]) -> bool
-    requires { ⌜ address + length (now words) ≤ 65536 ⌝ }
-    ensures { λ r. ⌜ r ≡ groupOk address (now (words .entry)) ⌝ }
+// Whether the setup words from 0x2000 on may each hold their value. Only those that have a range are looked at.
+pub fn standard_ok(words: [u16; 16]) -> bool
+    ensures { λ r. ⌜ r ≡ groupOk 0x2000 words ⌝ }
 {
-    let mut ok = true;
-    let mut i = 0;
-    while i < words.len() {
-        ok = ok & setup_ok(address + i as u16, words[i]);
-        i += 1;
-    }
-    ok
+    setup_ok(0x2005, words[5])
+        & setup_ok(0x200a, words[10])
+        & setup_ok(0x200b, words[11])
+        & setup_ok(0x200c, words[12])
+        & setup_ok(0x200d, words[13])
+        & setup_ok(0x200e, words[14])
+}
+
+// The same of those from 0x2200 on.
+pub fn output_ok(words: [u16; 24]) -> bool
+    ensures { λ r. ⌜ r ≡ groupOk 0x2200 words ⌝ }
+{
+    setup_ok(0x2215, words[21]) & setup_ok(0x2216, words[22]) & setup_ok(0x2217, words[23])
 }
 
 // The run for `words` words from `start`. An item that starts where the one before ends can only be the table's next,

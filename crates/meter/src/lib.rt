@@ -51,11 +51,6 @@ impl Meter {
 
     pub const SECTOR_TOP: u8 = 2;
 
-    // The first addresses of the setup groups.
-    pub const STANDARD_AT: u16 = 0x2000;
-
-    pub const OUTPUT_AT: u16 = 0x2200;
-
     // A new meter. One that is refused is handed back too: it is out of limits, so no call takes anything from it.
     pub fn new(address: u8, ratios: Ratios) -> Answered
         ensures { λ r. ⌜ r ≡ newOf address ratios ⌝ }
@@ -122,8 +117,7 @@ impl Meter {
     {
         let standard = self.standard;
         let output = self.output;
-        directory::group_ok(Meter::STANDARD_AT, &standard)
-            & directory::group_ok(Meter::OUTPUT_AT, &output)
+        directory::standard_ok(standard) & directory::output_ok(output)
     }
 
     // The meter after a sample of one second.

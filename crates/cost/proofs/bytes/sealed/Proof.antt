@@ -1,8 +1,8 @@
 -- A thousand turns, one fewer left at each.
 use Prim.Native.Nat.{_≤_, _-_}
 use borrow.Author.Needs.{needs}
-use Rattle.cost.proofs.turns.Statement.{statement}
-use Rattle.cost.proofs.turns.Tie as tie
+use Rattle.cost.proofs.bytes.sealed.Statement.{statement}
+use Rattle.cost.proofs.bytes.sealed.Tie as tie
 
 abbrev Inv-loop : tie.InvT-loop
 Inv-loop buf₀ n k₀ buf k = k ≤ 1000
@@ -31,8 +31,8 @@ element-copy-out-result c = search needs
 returns : tie.Need-returns Inv-loop μ-loop
 returns c = search needs
 
-pub turns-spec : {M : Type 1} → statement M
-turns-spec =
+pub sealed-spec : {M : Type 1} → statement M
+sealed-spec =
     tie.close
     (tie.spec
     Inv-loop
