@@ -1,2 +1,37 @@
 -- Every quantity of the directory has its case, and what is shown has room where it is sent.
 use mathlib.Core.Path.{_≡_}
+use Prim.Native.Nat.{ℕ, _/_, _%_, _^_, _≤_, _<_}
+use mathlib.Core.Bool.{true}
+use mathlib.Core.List.{List, []}
+use lib.ListN.{length, getD}
+use Rattle.directory.specs.Item.{none}
+use Rattle.directory.specs.Quantity.{widthOf}
+use Rattle.directory.specs.Order.{roomOf}
+use Rattle.directory.specs.Table.{directory}
+use Rattle.meter.specs.declared.Meter.{Meter}
+use Rattle.meter.specs.Meters.{meterOk}
+use Rattle.meter.specs.Answers.{withSetup}
+use Rattle.registers.specs.Shown.{valuesOf, shownOf}
+
+-- a record as a program holds it: its arrays have the lengths of their types, and its numbers their widths
+pub record Typed (m : Meter) : Type 0 where
+  pub voltages : length (m .latest .voltages) ≡ 6
+  pub currents : length (m .latest .currents) ≡ 4
+  pub standard : length (m .standard) ≡ 16
+  pub output : length (m .output) ≡ 24
+  pub voltage : (i : ℕ) → getD (m .latest .voltages) i 0 < 256 ^ 4
+  pub current : (i : ℕ) → getD (m .latest .currents) i 0 < 256 ^ 4
+  pub frequency : m .latest .frequency < 256 ^ 2
+  pub first : (i : ℕ) → getD (m .standard) i 0 < 256 ^ 2
+  pub second : (i : ℕ) → getD (m .output) i 0 < 256 ^ 2
+
+-- STATEMENT: a quantity of the directory is one of its kind's values; what a meter within limits shows of it fits its bytes, and the item
+pub record EveryCase : Type 0 where
+  pub case : (m : Meter) → Typed m → meterOk m ≡ true → (q : ℕ) → 1 ≤ widthOf q → q % 64 < length (getD (valuesOf m) (q / 64) [])
+  pub fits : (m : Meter) → Typed m → meterOk m ≡ true → (q : ℕ) → shownOf m q < 256 ^ widthOf q
+  pub known : (i : ℕ) → i < length directory → 1 ≤ widthOf (getD directory i none .quantity)
+  pub room : (m : Meter) → Typed m → meterOk m ≡ true → (i : ℕ) → i < length directory → shownOf m (getD directory i none .quantity) < 256 ^ roomOf (getD directory i none)
+
+-- STATEMENT: setup words alter no measurement: what is shown of every other kind is the same with others
+pub record SetupUnseen : Type 0 where
+  pub kinds : (m : Meter) (standard output : List ℕ) (q : ℕ) → q / 64 < 16 → shownOf (withSetup m standard output) q ≡ shownOf m q

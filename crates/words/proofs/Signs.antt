@@ -2,7 +2,7 @@
 use mathlib.Core.Path.{_≡_, refl}
 use mathlib.Core.Bool.{Bool, true, false, _&&_}
 use Prim.Native.Nat.{ℕ, zero, suc, _-_, _/_, _^_, _<_}
-use native.Mathlib.Nat.{sub-zero, mod-eq-of-lt, mod-self}
+use native.Mathlib.Nat.{sub-zero, mod-eq-of-lt, mod-self, mod-lt}
 use native.Mathlib.Omega.{arith}
 use lib.Dec.{ltb}
 use borrow.Author.Tests.{le-leb, lt-leb, lt-ltb}
@@ -19,6 +19,12 @@ twos-zero n = rw sub-zero (mod-self (65536 ^ n))
 pub twos-negative : (n m : ℕ) → 0 < m → m < 65536 ^ n → twos n true m ≡ 65536 ^ n - m
 unfolding twos
 twos-negative n m z h = mod-eq-of-lt (omega arith)
+
+-- a magnitude that fits is sent as a number that fits
+pub twos-fits : (n : ℕ) (negative : Bool) (m : ℕ) → m < 65536 ^ n → twos n negative m < 65536 ^ n
+unfolding twos
+twos-fits n true m h = mod-lt (65536 ^ n - m) (omega (arith, h))
+twos-fits n false m h = h
 
 sign : (n : ℕ) (negative : Bool) (m : ℕ) → m < 65536 ^ n / 2 → negativeIn n (twos n negative m) ≡ (negative && ltb 0 m)
 sign n false m h = rw twos-plain (lt-leb _ _ h)

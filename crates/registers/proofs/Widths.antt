@@ -1,0 +1,192 @@
+-- The values beside the widths of their quantities: the lists are as long as each other, and each value fits its bytes.
+use mathlib.Core.Path.{_≡_, refl, sym, ap, _∙_}
+use mathlib.Core.Bool.{Bool, true, false, cond, _&&_}
+use mathlib.Core.List.{List, [], _∷_, _++_, map}
+use Prim.Native.Nat.{ℕ, zero, suc, _+_, _-_, _*_, _/_, _%_, _^_, _≤_, _<_, zero-le}
+use native.Mathlib.Nat.{lt-of-lt-of-le, pow-le-pow-right}
+use native.Mathlib.Omega.{arith}
+use lib.Dec.{ltb, eqb, leb}
+use borrow.Author.Tests.{ltb-true, ltb-false, eqb-true, eqb-false, leb-true}
+use lib.ListN.{length, getD, take, replicate, length-append, List·getD-append}
+use Rattle.words.proofs.Signs.{twos-fits}
+use Rattle.ratio.proofs.Powers.{powers-fit}
+use Rattle.ratio.proofs.Joins.{counts-fit}
+use Rattle.directory.specs.Quantity.{widths, widthOf}
+use Rattle.directory.specs.Order.{roomOf, meant}
+use Rattle.directory.specs.Table.{directory}
+use Rattle.directory.specs.Item.{none}
+use Rattle.directory.proofs.Rules.{directory-rules}
+use Rattle.meter.specs.declared.Meter.{Meter}
+use Rattle.meter.specs.Samples.{factorOf}
+use Rattle.meter.specs.Meters.{meterT, meterOk}
+use Rattle.meter.specs.Histories.{energyAt}
+use Rattle.meter.specs.Answers.{withSetup}
+use Rattle.meter.proofs.Tests.{both}
+use Rattle.meter.proofs.Parts.{SampleParts, sample-parts, meter-parts}
+use Rattle.registers.specs.Shown.{powerAt, powerValues, signedValues, signValues, countValues, lowValues, highValues, wrapValues, factorValues, plainValues, valuesOf, shownOf}
+use Rattle.registers.specs.Cases.{Typed, EveryCase, SetupUnseen}
+use Rattle.registers.proofs.Values.{count-at, low-at, high-at, wrap-at, energy-most, signed-at, sign-at, power-s, power-whole, power-at, power-most}
+
+-- values that fit their widths, one by one
+abbrev Fit : List ℕ → List ℕ → Type 0
+Fit [] [] = Unit
+Fit [] (w ∷ ws) = ⊥
+Fit (v ∷ vs) [] = ⊥
+Fit (v ∷ vs) (w ∷ ws) = (v < 256 ^ w) × Fit vs ws
+
+abbrev Fits : List (List ℕ) → List (List ℕ) → Type 0
+Fits [] [] = Unit
+Fits [] (w ∷ ws) = ⊥
+Fits (v ∷ vs) [] = ⊥
+Fits (v ∷ vs) (w ∷ ws) = Fit v w × Fits vs ws
+
+fit-at : (vs ws : List ℕ) → Fit vs ws → (i : ℕ) → getD vs i 0 < 256 ^ getD ws i 0
+fit-at [] [] f i = omega arith
+fit-at [] (w ∷ ws) f i = absurd f
+fit-at (v ∷ vs) [] f i = absurd f
+fit-at (v ∷ vs) (w ∷ ws) f zero = f .0
+fit-at (v ∷ vs) (w ∷ ws) f (suc i) = fit-at vs ws (f .1) i
+
+fit-case : (vs ws : List ℕ) → Fit vs ws → (i : ℕ) → 1 ≤ getD ws i 0 → i < length vs
+fit-case [] [] f i h = absurd (omega arith)
+fit-case [] (w ∷ ws) f i h = absurd f
+fit-case (v ∷ vs) [] f i h = absurd f
+fit-case (v ∷ vs) (w ∷ ws) f zero h = omega arith
+fit-case (v ∷ vs) (w ∷ ws) f (suc i) h = omega (arith, fit-case vs ws (f .1) i h)
+
+fits-at : (vs ws : List (List ℕ)) → Fits vs ws → (k : ℕ) → Fit (getD vs k []) (getD ws k [])
+fits-at [] [] f k = tt
+fits-at [] (w ∷ ws) f k = absurd f
+fits-at (v ∷ vs) [] f k = absurd f
+fits-at (v ∷ vs) (w ∷ ws) f zero = f .0
+fits-at (v ∷ vs) (w ∷ ws) f (suc k) = fits-at vs ws (f .1) k
+
+-- as many values as there are quantities of one width
+all-fit : (w n : ℕ) (l : List ℕ) → length l ≡ n → ((i : ℕ) → getD l i 0 < 256 ^ w) → Fit l (replicate n w)
+all-fit w zero [] h each = tt
+all-fit w zero (v ∷ l) h each = absurd (omega (arith, h))
+all-fit w (suc n) [] h each = absurd (omega (arith, h))
+all-fit w (suc n) (v ∷ l) h each = (each 0, all-fit w n l (omega (arith, h)) (λ i. each (suc i)))
+
+append-fits : (w : ℕ) (a b : List ℕ) → ((i : ℕ) → getD a i 0 < 256 ^ w) → ((i : ℕ) → getD b i 0 < 256 ^ w) → (i : ℕ) → getD (a ++ b) i 0 < 256 ^ w
+append-fits w [] b f g i = g i
+append-fits w (v ∷ a) b f g zero = f 0
+append-fits w (v ∷ a) b f g (suc i) = append-fits w a b (λ i. f (suc i)) g i
+
+-- ---- kind by kind
+
+module _ (m : Meter) (typed : Typed m) (h : meterOk m ≡ true) where
+  abbrev parts : SampleParts (meterT m) (m .latest)
+  parts = sample-parts (meterT m) (m .latest) (meter-parts m h .latest)
+
+  -- registers of powers: by their case
+  power-fits : (i : ℕ) → getD (powerValues m) i 0 < 256 ^ 4
+  power-fits i = by (eqb i 8) (eqb i 9) refl refl
+    where
+      by : (a b : Bool) → eqb i 8 ≡ a → eqb i 9 ≡ b → getD (powerValues m) i 0 < 256 ^ 4
+      by true b e f =
+          rw (eqb-true i 8 e, power-s m) (powers-fit .register (meterT m) (m .latest .s) (parts .apparent))
+      by false true e f =
+          rw (eqb-true i 9 f, power-whole m) (omega (arith, powers-fit .signed (meterT m) (m .latest .s) (parts .apparent)))
+      by false false e f =
+          rw (power-at m i (eqb-false i 8 e) (eqb-false i 9 f))
+          (powers-fit .register (meterT m) (powerAt (m .latest) i .magnitude) (power-most m i h))
+
+  signed-fits : (i : ℕ) → getD (signedValues m) i 0 < 256 ^ 4
+  signed-fits i =
+      rw (signed-at m i)
+      (twos-fits 2 (powerAt (m .latest) i .negative) (powerAt (m .latest) i .magnitude / 100)
+      (omega (arith, powers-fit .signed (meterT m) (powerAt (m .latest) i .magnitude) (power-most m i h))))
+
+  count-fits : (i : ℕ) → getD (countValues m) i 0 < 256 ^ 4
+  count-fits i = rw (count-at m i) (omega (arith, counts-fit .register (meterT m) (energyAt i m .wh)))
+
+  low-fits : (i : ℕ) → getD (lowValues m) i 0 < 256 ^ 4
+  low-fits i = rw (low-at m i) (omega (arith, counts-fit .low (energyAt i m .wh)))
+
+  high-fits : (i : ℕ) → getD (highValues m) i 0 < 256 ^ 4
+  high-fits i = rw (high-at m i) (omega (arith, counts-fit .high (energyAt i m .wh) (energy-most m i h)))
+
+  wrap-fits : (i : ℕ) → getD (wrapValues m) i 0 < 256 ^ 2
+  wrap-fits i = rw (wrap-at m i) (omega (arith, counts-fit .wrap (meterT m) (energyAt i m .wh) (energy-most m i h)))
+
+  sign-fits : (i : ℕ) → getD (signValues m) i 0 < 256 ^ 1
+  sign-fits i = rw (sign-at m i) (pick (powerAt (m .latest) i .negative))
+    where
+      pick : (t : Bool) → cond t 1 0 < 256 ^ 1
+      pick true = omega arith
+      pick false = omega arith
+
+  factor-fits : Fit (factorValues (factorOf (m .latest .factor))) (2 ∷ 4 ∷ [])
+  unfolding factorValues
+  factor-fits =
+      let f = factorOf (m .latest .factor) in
+      (twos-fits 1 (f .negative) (f .magnitude / 10) (omega (arith, parts .factor)), (twos-fits 2 (f .negative) (f .magnitude) (omega (arith, parts .factor)), tt))
+
+  plain-fits : Fit (plainValues m) (1 ∷ 1 ∷ 2 ∷ replicate (16 + 24) 2)
+  unfolding plainValues
+  plain-fits =
+      let long : length (m .standard ++ m .output) ≡ 40 = rw (length-append, typed .standard, typed .output) refl in
+      (omega arith, (omega arith, (omega arith, all-fit 2 40 (m .standard ++ m .output) long (append-fits 2 (m .standard) (m .output) (typed .first) (typed .second)))))
+
+  ratio-tops : (m .ratios .kta ≤ 9999) × (m .ratios .ktv ≤ 9999)
+  ratio-tops =
+      let r = m .ratios in
+      let t = both (leb 1 (r .kta) && leb (r .kta) 9999) (leb 10 (r .ktv) && leb (r .ktv) 9999) (meter-parts m h .ratios) in
+      (leb-true _ _ (both (leb 1 (r .kta)) (leb (r .kta) 9999) (t .0) .1), leb-true _ _ (both (leb 10 (r .ktv)) (leb (r .ktv) 9999) (t .1) .1))
+
+  values-fit : Fits (valuesOf m) widths
+  unfolding powerValues signedValues signValues countValues lowValues highValues wrapValues
+  values-fit =
+      (tt,
+      (all-fit 4 6 (m .latest .voltages) (typed .voltages) (typed .voltage),
+      (all-fit 4 4 (m .latest .currents) (typed .currents) (typed .current),
+      (all-fit 4 10 (powerValues m) refl power-fits,
+      (all-fit 4 8 (signedValues m) refl signed-fits,
+      (all-fit 4 4 (countValues m) refl count-fits,
+      (all-fit 4 4 (lowValues m) refl low-fits,
+      (all-fit 4 4 (highValues m) refl high-fits,
+      (all-fit 2 4 (wrapValues m) refl wrap-fits,
+      (factor-fits,
+      (all-fit 1 8 (signValues m) refl sign-fits,
+      ((omega (arith, parts .sector), tt),
+      ((typed .frequency, tt),
+      ((omega (arith, ratio-tops), tt),
+      ((omega (arith, ratio-tops), tt),
+      ((omega (arith, parts .sequence), tt),
+      (plain-fits,
+      tt)))))))))))))))))
+
+  case : (q : ℕ) → 1 ≤ widthOf q → q % 64 < length (getD (valuesOf m) (q / 64) [])
+  case q w = fit-case (getD (valuesOf m) (q / 64) []) (getD widths (q / 64) []) (fits-at (valuesOf m) widths values-fit (q / 64)) (q % 64) w
+
+  fits : (q : ℕ) → shownOf m q < 256 ^ widthOf q
+  unfolding shownOf
+  fits q = fit-at (getD (valuesOf m) (q / 64) []) (getD widths (q / 64) []) (fits-at (valuesOf m) widths values-fit (q / 64)) (q % 64)
+
+-- ---- and so for the items of the directory
+
+known : (i : ℕ) → i < length directory → (1 ≤ widthOf (getD directory i none .quantity)) × (widthOf (getD directory i none .quantity) ≤ roomOf (getD directory i none))
+known i h =
+    let it = getD directory i none in
+    let t = both (leb 1 (widthOf (it .quantity))) (leb (widthOf (it .quantity)) (roomOf it)) (directory-rules .meanings i h) in
+    (leb-true _ _ (t .0), leb-true _ _ (t .1))
+
+pub every-case : EveryCase
+every-case = record {
+  case = case;
+  fits = fits;
+  known = λ i h. known i h .0;
+  room = λ m typed h i l. lt-of-lt-of-le (fits m typed h (getD directory i none .quantity)) (pow-le-pow-right (omega arith) (known i l .1));
+}
+
+unseen : (m : Meter) (standard output : List ℕ) (k : ℕ) → k < 16 → getD (valuesOf (withSetup m standard output)) k [] ≡ getD (valuesOf m) k []
+unfolding powerValues signedValues signValues countValues lowValues highValues wrapValues
+unseen m standard output k h =
+    let n = withSetup m standard output in
+    List·getD-append (take 16 (valuesOf n)) (plainValues n ∷ []) [] k h
+    ∙ sym (List·getD-append (take 16 (valuesOf m)) (plainValues m ∷ []) [] k h)
+
+pub setup-unseen : SetupUnseen
+unfolding shownOf
+setup-unseen = record { kinds = λ m standard output q h. ap (λ (l : List ℕ). getD l (q % 64) 0) (unseen m standard output (q / 64) h) }
