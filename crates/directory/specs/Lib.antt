@@ -4,4 +4,3 @@ pub mod Table
 pub mod Order
 pub mod Run
 pub mod Rules
-pub mod Setup

@@ -11,7 +11,6 @@ ghost use lib.Dec.{T};
 ghost use Rattle.directory.specs.Item.{items, none};
 ghost use Rattle.directory.specs.Order.{ruled};
 ghost use Rattle.directory.specs.Run.{findIn, runIn};
-ghost use Rattle.directory.specs.Setup.{setupOk, groupOk};
 ghost use Rattle.directory.specs.Table.{directory};
 use refusal::ErrorCode;
 
@@ -48,41 +47,6 @@ pub fn run(start: u16, words: u16) -> Span
     ensures { λ r. ⌜ r ≡ runIn directory start words ⌝ }
 {
     run_in(&table::TABLE, ITEMS, start, words)
-}
-
-// Whether the setup word at an address may hold a value.
-pub fn setup_ok(address: u16, value: u16) -> bool
-    ensures { λ r. ⌜ r ≡ setupOk address value ⌝ }
-{
-    match address {
-        0x2005 => value <= 1,
-        0x200a => value <= 6,
-        0x200b => (value == 0) | (value == 3),
-        0x200c..=0x200e => value <= 10,
-        0x2215 => value <= 5,
-        0x2216 => value <= 6,
-        0x2217 => value <= 1,
-        _ => true,
-    }
-}
-
-// Whether the setup words from 0x2000 on may each hold their value. Only those that have a range are looked at.
-pub fn standard_ok(words: [u16; 16]) -> bool
-    ensures { λ r. ⌜ r ≡ groupOk 0x2000 words ⌝ }
-{
-    setup_ok(0x2005, words[5])
-        & setup_ok(0x200a, words[10])
-        & setup_ok(0x200b, words[11])
-        & setup_ok(0x200c, words[12])
-        & setup_ok(0x200d, words[13])
-        & setup_ok(0x200e, words[14])
-}
-
-// The same of those from 0x2200 on.
-pub fn output_ok(words: [u16; 24]) -> bool
-    ensures { λ r. ⌜ r ≡ groupOk 0x2200 words ⌝ }
-{
-    setup_ok(0x2215, words[21]) & setup_ok(0x2216, words[22]) & setup_ok(0x2217, words[23])
 }
 
 // The run for `words` words from `start`. An item that starts where the one before ends can only be the table's next,

@@ -17,7 +17,7 @@ use Rattle.ratio.specs.declared.Ratios.{Ratios}
 use Rattle.ratio.specs.Ratios.{ratiosOk, tOf}
 use Rattle.ratio.specs.Powers.{powerLimit}
 use Rattle.ratio.specs.Energies.{topWh}
-use Rattle.directory.specs.Setup.{groupOk, setupOk}
+use Rattle.setup.specs.Ranges.{groupOk, wordOk}
 use Rattle.meter.specs.declared.samples.Sample.{Sample}
 use Rattle.meter.specs.declared.energies.Energy.{Energy}
 use Rattle.meter.specs.declared.energies.Energies.{Energies}
@@ -133,7 +133,7 @@ trues true = refl
 trues false = refl
 
 blank-within : (a : ℕ) (r : Ratios) → meterOk (blankOf a r) ≡ (leb 1 a && ratiosOk r)
-unfolding meterOk groupOk setupOk
+unfolding meterOk groupOk wordOk
 blank-within a r = rw (blank-sample (tOf r)) (trues (leb 1 a && ratiosOk r))
 
 module _ (a : ℕ) (r : Ratios) where

@@ -7,7 +7,7 @@ use Rattle.refusal.specs.declared.Refusal.{Refusal}
 use Rattle.refusal.specs.declared.Refusal.the-variants.{RatioOutOfLimits, OwnAddressZero}
 use Rattle.ratio.specs.declared.Ratios.{Ratios}
 use Rattle.ratio.specs.Ratios.{ratiosOk, tOf}
-use Rattle.directory.specs.Setup.{groupOk}
+use Rattle.setup.specs.Ranges.{groupOk}
 use Rattle.meter.specs.declared.energies.Energy.{Energy}
 use Rattle.meter.specs.declared.energies.Energies.{Energies}
 use Rattle.meter.specs.declared.Meter.{Meter}

@@ -117,7 +117,7 @@ impl Meter {
     {
         let standard = self.standard;
         let output = self.output;
-        directory::standard_ok(standard) & directory::output_ok(output)
+        setup::standard_ok(standard) & setup::output_ok(output)
     }
 
     // The meter after a sample of one second.

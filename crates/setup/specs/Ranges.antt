@@ -5,8 +5,8 @@ use mathlib.Core.Bool.{Bool, true, _&&_, _||_, cond}
 use lib.Dec.{leb, eqb}
 
 -- the setup word at an address may hold a value
-unfoldable pub setupOk : ℕ → ℕ → Bool
-setupOk address value =
+unfoldable pub wordOk : ℕ → ℕ → Bool
+wordOk address value =
     cond (eqb address 0x2005) (leb value 1)
     (cond (eqb address 0x200a) (leb value 6)
     (cond (eqb address 0x200b) (eqb value 0 || eqb value 3)
@@ -19,4 +19,4 @@ setupOk address value =
 -- the words of a group, from its first address on, may each hold their value
 unfoldable pub groupOk : ℕ → List ℕ → Bool
 groupOk address [] = true
-groupOk address (w ∷ ws) = setupOk address w && groupOk (address + 1) ws
+groupOk address (w ∷ ws) = wordOk address w && groupOk (address + 1) ws
