@@ -149,18 +149,22 @@ setup2200 k = plain (19 + k)
 abbrev pub widths : List (List ℕ)
 widths =
     [] ∷
+    -- voltage, current, power, signed power
     replicate 6 4 ∷
     replicate 4 4 ∷
     replicate 10 4 ∷
     replicate 8 4 ∷
+    -- energy count, Low, High, wrap
     replicate 4 4 ∷
     replicate 4 4 ∷
     replicate 4 4 ∷
     replicate 4 2 ∷
+    -- factor, sign, sector, frequency
     (2 ∷ 4 ∷ []) ∷
     replicate 8 1 ∷
     (1 ∷ []) ∷
     (2 ∷ []) ∷
+    -- KTA, KTV, sequence, plain
     (2 ∷ []) ∷
     (2 ∷ []) ∷
     (1 ∷ []) ∷

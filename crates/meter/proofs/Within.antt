@@ -1,13 +1,12 @@
 -- The answers of a new meter and of a sample as picks by tests; and what is within limits stays so.
-use mathlib.Core.Path.{_≡_, refl, sym, ap, _∙_, subst}
+use mathlib.Core.Path.{_≡_, refl, sym, ap, _∙_}
 use mathlib.Core.Logic.{_↔_}
 use mathlib.Core.Bool.{Bool, true, false, _&&_, cond, and-true, not}
 use mathlib.Core.List.{List, [], _∷_}
-use Prim.Native.Nat.{ℕ, _+_, _%_, _≤_, zero, suc, zero-le}
+use Prim.Native.Nat.{ℕ, _+_, _%_, zero, suc, zero-le}
 use native.Mathlib.Omega.{arith}
 use lib.Dec.{leb, eqb}
-use lib.ListN.{replicate}
-use borrow.Author.Tests.{le-leb, leb-true, eqb-true, eqb-false, eq-eqb, ne-eqb}
+use borrow.Author.Tests.{le-leb, ne-eqb}
 use Rattle.refusal.specs.declared.Refusal.{Refusal}
 use Rattle.refusal.specs.declared.Refusal.the-variants.{MeterOutOfLimits, RatioOutOfLimits, OwnAddressZero, SampleOutOfLimits, EnergyPastTop}
 use Rattle.refusal.specs.Numbers.{refusalNumber}
@@ -21,11 +20,10 @@ use Rattle.setup.specs.Ranges.{groupOk, wordOk}
 use Rattle.meter.specs.declared.samples.Sample.{Sample}
 use Rattle.meter.specs.declared.energies.Energy.{Energy}
 use Rattle.meter.specs.declared.energies.Energies.{Energies}
-use Rattle.meter.specs.declared.Answer.{Answer}
 use Rattle.meter.specs.declared.Answer.the-variants.{Accepted, Refused}
 use Rattle.meter.specs.declared.Answered.{Answered}
 use Rattle.meter.specs.declared.Meter.{Meter}
-use Rattle.meter.specs.Samples.{threeOf, powersOk, sampleOk, noSample}
+use Rattle.meter.specs.Samples.{threeOf, sampleOk, noSample}
 use Rattle.meter.specs.Energies.{energyOk, energiesOk, plusOf, withPower, belowTop}
 use Rattle.meter.specs.Meters.{meterT, setupWithin, meterOk, blankOf, refusedOf, acceptedOf, newOf}
 use Rattle.meter.specs.After.{nextOf, meterBelowTop, afterOf}
@@ -182,9 +180,10 @@ new-accepted : (a : ℕ) (r : Ratios) → (newOf a r .answer ≡ Accepted) ↔ (
 new-accepted a r =
     let f = none-fails RatioOutOfLimits OwnAddressZero EnergyPastTop (ratiosOk r) (not (eqb a 0)) true in
     let within = ap meterOk (new-blank a r) ∙ blank-within a r in
-    rw (new-answer a r, within)
-    (λ h. let t = f .0 h in (λ i. (sym (zero-no a) ∙ t .1) i && t .0 i),
-    λ h. let t = both (leb 1 a) (ratiosOk r) h in f .1 (t .1, zero-no a ∙ t .0, refl))
+    rw (new-answer a r, within) (
+      λ h. let t = f .0 h in (λ i. (sym (zero-no a) ∙ t .1) i && t .0 i),
+      λ h. let t = both (leb 1 a) (ratiosOk r) h in f .1 (t .1, zero-no a ∙ t .0, refl),
+    )
 
 pub new-answers : NewAnswers
 new-answers = record {

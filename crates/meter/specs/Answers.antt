@@ -9,9 +9,7 @@ use Rattle.refusal.specs.declared.Refusal.the-variants.{MeterOutOfLimits, Ratio
 use Rattle.ratio.specs.declared.Ratios.{Ratios}
 use Rattle.ratio.specs.Ratios.{ratiosOk}
 use Rattle.meter.specs.declared.samples.Sample.{Sample}
-use Rattle.meter.specs.declared.Answer.{Answer}
 use Rattle.meter.specs.declared.Answer.the-variants.{Accepted, Refused}
-use Rattle.meter.specs.declared.Answered.{Answered}
 use Rattle.meter.specs.declared.Meter.{Meter}
 use Rattle.meter.specs.Samples.{sampleOk}
 use Rattle.meter.specs.Meters.{meterT, setupWithin, meterOk, newOf}

@@ -75,7 +75,11 @@ impl Sample {
     pub(crate) fn none() -> Sample
         ensures { λ r. ⌜ r ≡ noSample ⌝ }
     {
-        let idle = Powers { l1: 0, l2: 0, l3: 0 };
+        let idle = Powers {
+            l1: 0,
+            l2: 0,
+            l3: 0,
+        };
         Sample {
             voltages: [0u32; 6],
             currents: [0u32; 4],

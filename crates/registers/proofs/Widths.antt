@@ -1,18 +1,18 @@
 -- The values beside the widths of their quantities: the lists are as long as each other, and each value fits its bytes.
 use mathlib.Core.Path.{_≡_, refl, sym, ap, _∙_}
 use mathlib.Core.Bool.{Bool, true, false, cond, _&&_}
-use mathlib.Core.List.{List, [], _∷_, _++_, map}
-use Prim.Native.Nat.{ℕ, zero, suc, _+_, _-_, _*_, _/_, _%_, _^_, _≤_, _<_, zero-le}
+use mathlib.Core.List.{List, [], _∷_, _++_}
+use Prim.Native.Nat.{ℕ, zero, suc, _+_, _-_, _/_, _%_, _^_, _≤_, _<_}
 use native.Mathlib.Nat.{lt-of-lt-of-le, pow-le-pow-right}
 use native.Mathlib.Omega.{arith}
-use lib.Dec.{ltb, eqb, leb}
-use borrow.Author.Tests.{ltb-true, ltb-false, eqb-true, eqb-false, leb-true}
+use lib.Dec.{eqb, leb}
+use borrow.Author.Tests.{eqb-true, eqb-false, leb-true}
 use lib.ListN.{length, getD, take, replicate, length-append, List·getD-append}
 use Rattle.words.proofs.Signs.{twos-fits}
 use Rattle.ratio.proofs.Powers.{powers-fit}
 use Rattle.ratio.proofs.Joins.{counts-fit}
 use Rattle.directory.specs.Quantity.{widths, widthOf}
-use Rattle.directory.specs.Order.{roomOf, meant}
+use Rattle.directory.specs.Order.{roomOf}
 use Rattle.directory.specs.Table.{directory}
 use Rattle.directory.specs.Item.{none}
 use Rattle.directory.proofs.Rules.{directory-rules}
@@ -137,25 +137,58 @@ module _ (m : Meter) (typed : Typed m) (h : meterOk m ≡ true) where
 
   values-fit : Fits (valuesOf m) widths
   unfolding powerValues signedValues signValues countValues lowValues highValues wrapValues
-  values-fit =
-      (tt,
-      (all-fit 4 6 (m .latest .voltages) (typed .voltages) (typed .voltage),
-      (all-fit 4 4 (m .latest .currents) (typed .currents) (typed .current),
-      (all-fit 4 10 (powerValues m) refl power-fits,
-      (all-fit 4 8 (signedValues m) refl signed-fits,
-      (all-fit 4 4 (countValues m) refl count-fits,
-      (all-fit 4 4 (lowValues m) refl low-fits,
-      (all-fit 4 4 (highValues m) refl high-fits,
-      (all-fit 2 4 (wrapValues m) refl wrap-fits,
-      (factor-fits,
-      (all-fit 1 8 (signValues m) refl sign-fits,
-      ((omega (arith, parts .sector), tt),
-      ((typed .frequency, tt),
-      ((omega (arith, ratio-tops), tt),
-      ((omega (arith, ratio-tops), tt),
-      ((omega (arith, parts .sequence), tt),
-      (plain-fits,
-      tt)))))))))))))))))
+  values-fit = (
+    tt,
+    (
+      all-fit 4 6 (m .latest .voltages) (typed .voltages) (typed .voltage),
+      (
+        all-fit 4 4 (m .latest .currents) (typed .currents) (typed .current),
+        (
+          all-fit 4 10 (powerValues m) refl power-fits,
+          (
+            all-fit 4 8 (signedValues m) refl signed-fits,
+            (
+              all-fit 4 4 (countValues m) refl count-fits,
+              (
+                all-fit 4 4 (lowValues m) refl low-fits,
+                (
+                  all-fit 4 4 (highValues m) refl high-fits,
+                  (
+                    all-fit 2 4 (wrapValues m) refl wrap-fits,
+                    (
+                      factor-fits,
+                      (
+                        all-fit 1 8 (signValues m) refl sign-fits,
+                        (
+                          (omega (arith, parts .sector), tt),
+                          (
+                            (typed .frequency, tt),
+                            (
+                              (omega (arith, ratio-tops), tt),
+                              (
+                                (omega (arith, ratio-tops), tt),
+                                (
+                                  (omega (arith, parts .sequence), tt),
+                                  (
+                                    plain-fits,
+                                    tt,
+                                  ),
+                                ),
+                              ),
+                            ),
+                          ),
+                        ),
+                      ),
+                    ),
+                  ),
+                ),
+              ),
+            ),
+          ),
+        ),
+      ),
+    ),
+  )
 
   case : (q : ℕ) → 1 ≤ widthOf q → q % 64 < length (getD (valuesOf m) (q / 64) [])
   case q w = fit-case (getD (valuesOf m) (q / 64) []) (getD widths (q / 64) []) (fits-at (valuesOf m) widths values-fit (q / 64)) (q % 64) w

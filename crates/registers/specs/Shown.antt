@@ -6,7 +6,6 @@ use mathlib.Core.List.{List, [], _∷_, _++_, map}
 use lib.ListN.{getD}
 use Rattle.signed.specs.declared.Signed.{Signed}
 use Rattle.signed.specs.Signs.{signedOf}
-use Rattle.ratio.specs.declared.WattHours.{WattHours}
 use Rattle.ratio.specs.Powers.{powerRegister, signWord, signedPower, factorHundredths, factorThousandths}
 use Rattle.ratio.specs.Energies.{registerOf, wrapOf, lowOf, highOf}
 use Rattle.meter.specs.declared.energies.Energy.{Energy}

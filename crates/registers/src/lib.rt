@@ -164,7 +164,10 @@ fn factor(f: Factor, which: u16) -> u32
 {
     let thousandths = f.signed();
     match which {
-        HUNDREDTHS => words::twos_word(thousandths.negative, (thousandths.magnitude / 10) as u16) as u32,
+        HUNDREDTHS => words::twos_word(
+            thousandths.negative,
+            (thousandths.magnitude / 10) as u16,
+        ) as u32,
         THOUSANDTHS => words::twos_long(thousandths.negative, thousandths.magnitude as u32),
         _ => 0,
     }

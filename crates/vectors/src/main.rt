@@ -1,4 +1,5 @@
 // The documents' examples, run: what each comes to is printed, and held to the file `stdout`.
+mod meters;
 mod say;
 
 use directory::Span;
@@ -182,4 +183,6 @@ fn main() {
     run(0x0301, 1);
     run(0x034d, 3);
     run(0x034d, 4);
+    meters::examples();
+    meters::refusals();
 }

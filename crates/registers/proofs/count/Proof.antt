@@ -14,7 +14,7 @@ register-requires : tie.Need-register-requires
 register-requires c κs = search needs
 
 returns : tie.Need-returns
-returns c = 
+returns c =
     let s = c .before .before .before in
     rw (c .register .ensures, c .before .tenths .ensures, c .before .before .energy-at .ensures) (sym (count-at (s .args .m) (s .args .which)))
 

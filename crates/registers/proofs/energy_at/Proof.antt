@@ -22,7 +22,7 @@ returns-4 : tie.Need-returns-4
 returns-4 c = search needs
 
 returns-5 : tie.Need-returns-5
-returns-5 c = 
+returns-5 c =
     let r = c .match .rest in
     let past : 4 ≤ c .before .args .which = omega (arith, r .0 .0 .0 .1, r .0 .0 .1, r .0 .1, r .1) in
     sym (ap (λ (e : Energy). e .wh) (List·getD-eq-default (energiesOf (c .before .args .m)) noEnergy past))

@@ -35,7 +35,7 @@ returns-2 c = rw (c .before .before .match .keys2, c .twos-long .ensures, c .bef
 
 returns-3 : tie.Need-returns-3
 unfolding factorValues
-returns-3 c = 
+returns-3 c =
     let r = c .match .rest in
     sym (List·getD-eq-default (factorValues (factorOf (c .before .before .args .f))) 0 {n = c .before .before .args .which} (omega (arith, r .0 .1, r .1)))
 

@@ -14,13 +14,13 @@ high-requires : tie.Need-high-requires
 high-requires c κs = search needs
 
 cast-result : tie.Need-cast-result
-cast-result c = 
+cast-result c =
     let s = c .before .before in
     let most = counts-fit .high (energyAt (s .args .which) (s .args .m) .wh) (energy-most (s .args .m) (s .args .which) (s .pre)) in
     rw (c .high .ensures, c .before .energy-at .ensures) (record { fits = omega (arith, most) })
 
 returns : tie.Need-returns
-returns c = 
+returns c =
     let s = c .before .before in
     rw (c .high .ensures, c .before .energy-at .ensures) (sym (high-at (s .args .m) (s .args .which)))
 

@@ -11,7 +11,7 @@ low-requires : tie.Need-low-requires
 low-requires c κs = search needs
 
 returns : tie.Need-returns
-returns c = 
+returns c =
     let s = c .before .before in
     rw (c .low .ensures, c .before .energy-at .ensures) (sym (low-at (s .args .m) (s .args .which)))
 

@@ -39,7 +39,7 @@ unfolding plainValues
 returns-3 c = rw (c .match .keys3) refl
 
 returns-4 : tie.Need-returns-4
-returns-4 c = 
+returns-4 c =
     let r = c .before .before .before in
     let s = r .before .before .before in
     c .word-at .ensures ∙ sym (plain-at (s .args .m) (s .args .which) (past r))

@@ -17,13 +17,13 @@ power-register-requires : tie.Need-power-register-requires
 power-register-requires c κs = search needs
 
 cast-result : tie.Need-cast-result
-cast-result c = 
+cast-result c =
     let s = c .before .before .before in
     let most = sample-parts (meterT (s .args .m)) (s .args .m .latest) (meter-parts (s .args .m) (s .pre) .latest) .apparent in
     rw (c .power-register .ensures, c .before .before .tenths .ensures) (record { fits = powers-fit .register (meterT (s .args .m)) (s .args .m .latest .s) most })
 
 cast-result-2 : tie.Need-cast-result-2
-cast-result-2 c = 
+cast-result-2 c =
     let s = c .before .before .before in
     let most = sample-parts (meterT (s .args .m)) (s .args .m .latest) (meter-parts (s .args .m) (s .pre) .latest) .apparent in
     record { fits = omega (arith, powers-fit .signed (meterT (s .args .m)) (s .args .m .latest .s) most) }
@@ -35,7 +35,7 @@ power-register-requires-2 : tie.Need-power-register-requires-2
 power-register-requires-2 c κs = search needs
 
 cast-result-3 : tie.Need-cast-result-3
-cast-result-3 c = 
+cast-result-3 c =
     let s = c .before .before .before .before in
     rw (c .power-register2 .ensures, c .before .before .before .tenths .ensures, c .before .signed-at .ensures)
     (record { fits = powers-fit .register (meterT (s .args .m)) (powerAt (s .args .m .latest) (s .args .which) .magnitude) (power-most (s .args .m) (s .args .which) (s .pre)) })
@@ -47,7 +47,7 @@ returns-2 : tie.Need-returns-2
 returns-2 c = rw (c .before .match .keys2) (sym (power-whole (c .before .before .before .args .m)))
 
 returns-3 : tie.Need-returns-3
-returns-3 c = 
+returns-3 c =
     let s = c .before .before .before .before in
     let r = c .before .before .match .rest in
     rw (c .power-register2 .ensures, c .before .before .before .tenths .ensures, c .before .signed-at .ensures)

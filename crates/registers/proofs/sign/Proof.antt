@@ -14,12 +14,12 @@ abbrev negativity : Signed → Bool
 negativity s = s .negative
 
 returns : tie.Need-returns
-returns c = 
+returns c =
     let s = c .before .before in
     sym (sign-at (s .args .m) (s .args .which) ∙ ap signWord (sym (ap negativity (c .before .signed-at .ensures)) ∙ c .if1 .taken))
 
 returns-2 : tie.Need-returns-2
-returns-2 c = 
+returns-2 c =
     let s = c .before .before in
     sym (sign-at (s .args .m) (s .args .which) ∙ ap signWord (sym (ap negativity (c .before .signed-at .ensures)) ∙ c .if1 .left))
 

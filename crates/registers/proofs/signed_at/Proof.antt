@@ -12,12 +12,12 @@ use Rattle.registers.proofs.signed_at.Statement.{statement}
 use Rattle.registers.proofs.signed_at.Tie as tie
 
 three-requires : tie.Need-three-requires
-three-requires c κs = 
+three-requires c κs =
     let s = c .before .before .before in
     held-p (s .args .m) (s .args .m .latest) (s .pre) (meter-parts (s .args .m) (s .pre) .latest)
 
 three-requires-2 : tie.Need-three-requires-2
-three-requires-2 c κs = 
+three-requires-2 c κs =
     let s = c .before .before .before in
     held-q (s .args .m) (s .args .m .latest) (s .pre) (meter-parts (s .args .m) (s .pre) .latest)
 
@@ -49,43 +49,43 @@ returns-2 c = rw (c .before .match .keys2) (c .three2 .ensures)
 
 returns-3 : tie.Need-returns-3
 unfolding powerAt
-returns-3 c = 
+returns-3 c =
     let g = c .before .struct-told .given in
     rw (c .before .before .match .keys3, c .of .ensures, back {z = c .before .before .before .before .before .args .m .latest .p .l1} (g .0 .1)) refl
 
 returns-4 : tie.Need-returns-4
 unfolding powerAt
-returns-4 c = 
+returns-4 c =
     let g = c .before .struct-told2 .given in
     rw (c .before .before .match .keys4, c .of2 .ensures, back {z = c .before .before .before .before .before .args .m .latest .p .l2} (g .1 .0 .1)) refl
 
 returns-5 : tie.Need-returns-5
 unfolding powerAt
-returns-5 c = 
+returns-5 c =
     let g = c .before .struct-told3 .given in
     rw (c .before .before .match .keys5, c .of3 .ensures, back {z = c .before .before .before .before .before .args .m .latest .p .l3} (g .1 .1 .0 .1)) refl
 
 returns-6 : tie.Need-returns-6
 unfolding powerAt
-returns-6 c = 
+returns-6 c =
     let g = c .before .struct-told4 .given in
     rw (c .before .before .match .keys6, c .of4 .ensures, back {z = c .before .before .before .before .before .args .m .latest .q .l1} (g .0 .1)) refl
 
 returns-7 : tie.Need-returns-7
 unfolding powerAt
-returns-7 c = 
+returns-7 c =
     let g = c .before .struct-told5 .given in
     rw (c .before .before .match .keys7, c .of5 .ensures, back {z = c .before .before .before .before .before .args .m .latest .q .l2} (g .1 .0 .1)) refl
 
 returns-8 : tie.Need-returns-8
 unfolding powerAt
-returns-8 c = 
+returns-8 c =
     let g = c .before .struct-told6 .given in
     rw (c .before .before .match .keys8, c .of6 .ensures, back {z = c .before .before .before .before .before .args .m .latest .q .l3} (g .1 .1 .0 .1)) refl
 
 returns-9 : tie.Need-returns-9
 unfolding powerAt
-returns-9 c = 
+returns-9 c =
     let s = c .before .before .before in
     let r = c .match .rest in
     let r3 = onward 2 (onward 1 (onward 0 zero-le (r .0 .0 .0 .0 .0 .0 .0 .1)) (r .0 .0 .0 .0 .0 .0 .1)) (r .0 .0 .0 .0 .0 .1) in

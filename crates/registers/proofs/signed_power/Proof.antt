@@ -12,7 +12,7 @@ signed-at-requires : tie.Need-signed-at-requires
 signed-at-requires c κs = search needs
 
 cast-twos-long : tie.Need-cast-twos-long
-cast-twos-long c = 
+cast-twos-long c =
     let s = c .before .before in
     let most = powers-fit .signed (meterT (s .args .m)) (powerAt (s .args .m .latest) (s .args .which) .magnitude) (power-most (s .args .m) (s .args .which) (s .pre)) in
     rw (c .before .signed-at .ensures) (record { fits = omega (arith, most) })
@@ -21,7 +21,7 @@ twos-long-requires : tie.Need-twos-long-requires
 twos-long-requires c κs = search needs
 
 returns : tie.Need-returns
-returns c = 
+returns c =
     let s = c .before .before .before in
     rw (c .twos-long .ensures, c .before .before .signed-at .ensures) (sym (signed-at (s .args .m) (s .args .which)))
 

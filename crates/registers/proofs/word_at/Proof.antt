@@ -12,7 +12,7 @@ shared-slice-read-result : tie.Need-shared-slice-read-result
 shared-slice-read-result c = search needs
 
 returns : tie.Need-returns
-returns c = 
+returns c =
     let s = c .before .before in
     sym (List·getD-append (s .args .first .now) (s .args .second .now) 0 (s .args .i) (c .before .if1 .taken))
 
@@ -26,12 +26,12 @@ shared-slice-read-result-2 : tie.Need-shared-slice-read-result-2
 shared-slice-read-result-2 c = search needs
 
 returns-2 : tie.Need-returns-2
-returns-2 c = 
+returns-2 c =
     let s = c .before .before .before in
     sym (second-at (s .args .first .now) (s .args .second .now) (s .args .i) (c .before .before .if1 .left))
 
 returns-3 : tie.Need-returns-3
-returns-3 c = 
+returns-3 c =
     let s = c .before .before in
     sym (second-at (s .args .first .now) (s .args .second .now) (s .args .i) (c .before .if1 .left) ∙ List·getD-eq-default (s .args .second .now) 0 (c .if2 .left))
 

@@ -18,13 +18,13 @@ wrap-requires : tie.Need-wrap-requires
 wrap-requires c κs = search needs
 
 cast-result : tie.Need-cast-result
-cast-result c = 
+cast-result c =
     let s = c .before .before .before in
     let most = counts-fit .wrap (meterT (s .args .m)) (energyAt (s .args .which) (s .args .m) .wh) (energy-most (s .args .m) (s .args .which) (s .pre)) in
     rw (c .wrap .ensures, c .before .tenths .ensures, c .before .before .energy-at .ensures) (record { fits = omega (arith, most) })
 
 returns : tie.Need-returns
-returns c = 
+returns c =
     let s = c .before .before .before in
     rw (c .wrap .ensures, c .before .tenths .ensures, c .before .before .energy-at .ensures) (sym (wrap-at (s .args .m) (s .args .which)))
 

@@ -1,11 +1,6 @@
 -- Each call tells a phase's magnitude, once the machine's bits are read back as the phase.
-use mathlib.Core.Path.{_≡_, refl}
-use Prim.Native.Nat.{_<_, _^_}
+use mathlib.Core.Path.{refl}
 use borrow.Author.Needs.{needs}
-use lib.IntN.{ℤ}
-use lib.Signed.{mag}
-use mir.Syntax.{w64}
-use mir.Val.{toZ, ofZ}
 use Rattle.signed.proofs.Halves.{back}
 use Rattle.meter.proofs.samples.Powers.phases_within.Statement.{statement}
 use Rattle.meter.proofs.samples.Powers.phases_within.Tie as tie

@@ -1,0 +1,158 @@
+// The meter's examples: samples, what its registers then show, and what it refuses.
+use crate::say;
+use directory::quantity::*;
+use meter::Answer;
+use meter::Answered;
+use meter::Meter;
+use meter::samples::Factor;
+use meter::samples::Powers;
+use meter::samples::Sample;
+use ratio::Ratios;
+
+pub fn examples() {
+    three_phases();
+    power(b"P of -150 hundredths", -150);
+    power(b"P of -50 hundredths", -50);
+    factor(b"factor -985", -985);
+    energy(1_999);
+    energy(100_000_000_000);
+}
+
+// A meter of address 1, new, with a step of 1,000 Wh.
+fn new() -> Meter {
+    let made = Meter::new(1, Ratios { kta: 100, ktv: 10 });
+    made.meter
+}
+
+// A sample of these phases and this power factor.
+fn sample(p: Powers, thousandths: i16) -> Sample {
+    let mut s = new().latest;
+    let factor = Factor(thousandths);
+    s.p = p;
+    s.factor = factor;
+    s
+}
+
+fn three_phases() {
+    let p = Powers {
+        l1: 120_000,
+        l2: 120_000,
+        l3: 120_000,
+    };
+    let answered = new().after(sample(p, 0));
+    let ea = answered.meter.active.positive;
+    say::field(
+        b"three phases of 120000 hundredths for one second: ",
+        ea.wh.0,
+    );
+    say::field(b" Wh, remainder ", ea.remainder as u64);
+    say::text(b"\n");
+}
+
+fn power(name: &[u8], hundredths: i64) {
+    let p = Powers {
+        l1: hundredths,
+        l2: 0,
+        l3: 0,
+    };
+    let answered = new().after(sample(p, 0));
+    let m = answered.meter;
+    say::text(name);
+    show(b": register ", m, POWER + P, 8);
+    show(b", sign ", m, SIGN + P, 4);
+    show(b", signed word ", m, SIGNED_POWER + P, 8);
+    say::text(b"\n");
+}
+
+fn factor(name: &[u8], thousandths: i16) {
+    let idle = Powers {
+        l1: 0,
+        l2: 0,
+        l3: 0,
+    };
+    let answered = new().after(sample(idle, thousandths));
+    let m = answered.meter;
+    say::text(name);
+    show(b": ", m, FACTOR + HUNDREDTHS, 4);
+    show(b" and ", m, FACTOR + THOUSANDTHS, 8);
+    say::text(b"\n");
+}
+
+// A record that holds this +Ea, in each of its places.
+fn energy(wh: u64) {
+    let mut m = new();
+    m.active.positive.wh.0 = wh;
+    say::field(b"+Ea of ", wh);
+    show(b" Wh: register ", m, ENERGY_COUNT + POS_EA, 8);
+    show(b", wrap ", m, WRAP + POS_EA, 4);
+    show(b", Low ", m, LOW + POS_EA, 8);
+    show(b", High ", m, HIGH + POS_EA, 8);
+    say::text(b"\n");
+}
+
+// What is shown of a quantity, in hexadecimal as it is sent.
+fn show(name: &[u8], m: Meter, quantity: u16, digits: usize) {
+    if !m.within() {
+        return;
+    }
+    say::text(name);
+    say::hex(registers::shown(m, quantity) as u64, digits);
+}
+
+// Each refusal of a new meter and of a sample, once.
+pub fn refusals() {
+    answer(
+        b"KTA 0, address 0",
+        Meter::new(0, Ratios { kta: 0, ktv: 10 }),
+    );
+    answer(b"address 0", Meter::new(0, Ratios { kta: 1, ktv: 10 }));
+    let mut full = new();
+    full.active.positive.remainder = 360_000;
+    answer(b"a remainder of 360000", full.after(full.latest));
+    let mut odd = new().latest;
+    odd.sector = 3;
+    answer(b"a sector of 3", new().after(odd));
+    least();
+    past_top();
+}
+
+fn answer(name: &[u8], a: Answered) {
+    say::text(name);
+    let answer = a.answer;
+    match answer {
+        Answer::Accepted => say::text(b": accepted\n"),
+        Answer::Refused(r) => {
+            say::field(b": refused ", r.number() as u64);
+            say::text(b"\n");
+        }
+    }
+}
+
+// The least number of 64 bits, in each phase.
+fn least() {
+    let least: i64 = -9_223_372_036_854_775_808;
+    let p = Powers {
+        l1: least,
+        l2: least,
+        l3: least,
+    };
+    answer(b"phases of -2^63 hundredths", new().after(sample(p, 0)));
+}
+
+// At the top the remainder may still fill; one more Wh is refused.
+fn past_top() {
+    let mut m = new();
+    m.active.positive.wh.0 = Meter::WH_TOP;
+    let some = Powers {
+        l1: 359_999,
+        l2: 0,
+        l3: 0,
+    };
+    let more = Powers {
+        l1: 360_000,
+        l2: 0,
+        l3: 0,
+    };
+    answer(b"359999 hundredths at the top", m.after(sample(some, 0)));
+    answer(b"360000 hundredths at the top", m.after(sample(more, 0)));
+}
