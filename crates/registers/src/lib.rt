@@ -5,6 +5,7 @@ ghost use mathlib.Core.Bool.{true};
 ghost use mathlib.Core.List.{[], _∷_, _++_};
 ghost use Prim.Native.Nat.{_≤_};
 ghost use lib.ListN.{getD};
+ghost use Rattle.ratio.specs.Powers.{signWord};
 ghost use Rattle.meter.specs.Samples.{factorOf};
 ghost use Rattle.meter.specs.Meters.{meterOk};
 ghost use Rattle.meter.specs.Histories.{energyAt};
@@ -92,8 +93,14 @@ fn sign(m: Meter, which: u16) -> u32
     requires { ⌜ meterOk m ≡ true ⌝ }
     ensures { λ r. ⌜ r ≡ getD (signValues m) which 0 ⌝ }
 {
-    let p = signed_at(m, which);
-    if p.negative { 1 } else { 0 }
+    sign_word(signed_at(m, which))
+}
+
+// The sign of the power itself, also where its whole units are 0.
+fn sign_word(power: Signed) -> u32
+    ensures { λ r. ⌜ r ≡ signWord (power .negative) ⌝ }
+{
+    if power.negative { 1 } else { 0 }
 }
 
 // The signed powers of the latest sample.

@@ -4,7 +4,7 @@ use mathlib.Core.Bool.{Bool, true}
 use Prim.Native.Nat.{ℕ}
 use borrow.Author.Tests.{not-true, not-false}
 use Rattle.meter.specs.Samples.{sampleOk}
-use Rattle.meter.specs.Meters.{meterT, meterOk}
+use Rattle.meter.specs.Meters.{meterT, meterOk, acceptedOf}
 use Rattle.meter.specs.After.{nextOf, meterBelowTop}
 use Rattle.meter.proofs.Cases.{after-1, after-5, after-6, after-accepted}
 use borrow.Author.Needs.{needs}
@@ -77,7 +77,7 @@ returns-4 c =
     let e = t .before .before in
     let s = e .before .before .before .before .before in
     let accepted = after-accepted (s .args .self) (s .args .sample) (in-limits (e .before .before .before)) (sample-in e) (top-found t (not-false _ (c .if3 .left))) in
-    rw (t .before .counted .ensures) (sym accepted)
+    ap acceptedOf (t .before .counted .ensures) ∙ sym accepted
 
 pub after-spec : {M : Type 1} → statement M
 after-spec =
