@@ -24,7 +24,8 @@ meterT m = tOf (m .ratios)
 abbrev pub setupWithin : Meter → Bool
 setupWithin m = groupOk 0x2000 (m .standard) && groupOk 0x2200 (m .output)
 
--- a record is within limits: own address, ratios, four energies, the latest sample at the record's T, setup groups
+-- a record is within limits: own address 1 to 255 (it is a byte), ratios, four energies, the latest sample at the record's T,
+-- setup groups
 unfoldable pub meterOk : Meter → Bool
 meterOk m =
     leb 1 (m .address) &&

@@ -15,7 +15,7 @@ pub struct Energy {
 }
 
 impl Energy {
-    pub(crate) fn within(self) -> bool
+    fn within(self) -> bool
         ensures { λ r. ⌜ r ≡ energyOk self ⌝ }
     {
         (self.wh.0 <= Meter::WH_TOP) & (self.remainder <= Meter::REMAINDER_TOP)

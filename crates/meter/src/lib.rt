@@ -51,7 +51,7 @@ impl Meter {
 
     pub const SECTOR_TOP: u8 = 2;
 
-    // A new meter. One that is refused is handed back too: it is out of limits, so no call takes anything from it.
+    // A new meter. One that is refused is handed back out of limits, so that every later call refuses it.
     pub fn new(address: u8, ratios: Ratios) -> Answered
         ensures { λ r. ⌜ r ≡ newOf address ratios ⌝ }
     {

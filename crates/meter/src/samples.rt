@@ -94,7 +94,7 @@ impl Sample {
     }
 
     // Whether each figure is within its limits at a ratio of t tenths.
-    pub fn within(self, t: u32) -> bool
+    pub(crate) fn within(self, t: u32) -> bool
         ensures { λ r. ⌜ r ≡ sampleOk t self ⌝ }
     {
         let factor = self.factor.signed();
