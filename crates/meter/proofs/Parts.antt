@@ -1,8 +1,9 @@
 -- What is known of a sample, an energy and a record that are within limits.
 use mathlib.Core.Path.{_≡_, ap}
 use mathlib.Core.Bool.{Bool, true, _&&_, _||_}
-use Prim.Native.Nat.{ℕ, _≤_}
+use Prim.Native.Nat.{ℕ, _+_, _/_, _%_, _≤_}
 use native.Mathlib.Nat.{le-trans}
+use native.Mathlib.Omega.{arith}
 use lib.Dec.{leb, eqb}
 use lib.IntN.{natAbs}
 use borrow.Author.Tests.{leb-true}
@@ -16,7 +17,7 @@ use Rattle.meter.specs.declared.energies.Energy.{Energy}
 use Rattle.meter.specs.declared.energies.Energies.{Energies}
 use Rattle.meter.specs.declared.Meter.{Meter}
 use Rattle.meter.specs.Samples.{threeOf, factorOf, phasesOk, powersOk, sampleOk}
-use Rattle.meter.specs.Energies.{energyOk, energiesOk}
+use Rattle.meter.specs.Energies.{energyOk, energiesOk, ZeroToNeither}
 use Rattle.meter.specs.Meters.{meterT, setupWithin, meterOk}
 use Rattle.meter.specs.Fits.{Held, Room}
 use Rattle.meter.proofs.Tests.{both, one-or-two}
@@ -109,6 +110,18 @@ meter-parts m h =
 -- an energy within limits is at most its top
 pub energy-top : (e : Energy) → energyOk e ≡ true → e .wh .0 ≤ topWh
 energy-top e h = leb-true _ _ (both (leb (e .wh .0) topWh) (leb (e .remainder) 359999) h .0)
+
+energy-rest : (e : Energy) → energyOk e ≡ true → e .remainder ≤ 359999
+energy-rest e h = leb-true _ _ (both (leb (e .wh .0) topWh) (leb (e .remainder) 359999) h .1)
+
+pub zero-to-neither : ZeroToNeither
+zero-to-neither = record {
+  same = λ e h.
+      let r = energy-rest e h in
+      let wh : e .wh .0 + (e .remainder + 0) / 360000 ≡ e .wh .0 = omega (arith, r) in
+      let rest : (e .remainder + 0) % 360000 ≡ e .remainder = omega (arith, r) in
+      λ i. record { wh = record { 0 = wh i }; remainder = rest i };
+}
 
 -- a power within the limit has room in energies within limits
 pub energies-room : (es : Energies) (t : ℕ) (p : Powers) → energiesOk es ≡ true → powersOk t p ≡ true → Room es (threeOf p)

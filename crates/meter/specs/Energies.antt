@@ -1,6 +1,7 @@
 -- Paper 01, "The meter's record": the four energies, and what a second of a power adds to one.
+use mathlib.Core.Path.{_≡_}
 use Prim.Native.Nat.{ℕ, _+_, _*_, _/_, _%_}
-use mathlib.Core.Bool.{Bool, _&&_}
+use mathlib.Core.Bool.{Bool, true, _&&_}
 use lib.Dec.{leb}
 use Rattle.signed.specs.declared.Signed.{Signed}
 use Rattle.signed.specs.Signs.{aboveOf, belowOf}
@@ -31,3 +32,7 @@ withPower es power = record { positive = plusOf (es .positive) (aboveOf power); 
 -- neither energy is past its top
 abbrev pub belowTop : Energies → Bool
 belowTop es = leb (es .positive .wh .0) topWh && leb (es .negative .wh .0) topWh
+
+-- STATEMENT: zero to neither: an energy within limits with 0 added is itself
+pub record ZeroToNeither : Type 0 where
+  pub same : (e : Energy) → energyOk e ≡ true → plusOf e 0 ≡ e
