@@ -56,12 +56,9 @@ fn power(name: &[u8], hundredths: i64) {
         l3: 0,
     };
     let answered = new().after(sample(p, 0));
-    let m = answered.meter;
     say::text(name);
-    show(b": register ", m, POWER + P, 8);
-    show(b", sign ", m, SIGN + P, 4);
-    show(b", signed word ", m, SIGNED_POWER + P, 8);
-    say::text(b"\n");
+    say::text(b", its sign and signed word:");
+    show(answered.meter, &[POWER + P, SIGN + P, SIGNED_POWER + P]);
 }
 
 fn factor(name: &[u8], thousandths: i16) {
@@ -71,11 +68,9 @@ fn factor(name: &[u8], thousandths: i16) {
         l3: 0,
     };
     let answered = new().after(sample(idle, thousandths));
-    let m = answered.meter;
     say::text(name);
-    show(b": ", m, FACTOR + HUNDREDTHS, 4);
-    show(b" and ", m, FACTOR + THOUSANDTHS, 8);
-    say::text(b"\n");
+    say::text(b" in hundredths and thousandths:");
+    show(answered.meter, &[FACTOR + HUNDREDTHS, FACTOR + THOUSANDTHS]);
 }
 
 // A record that holds this +Ea, in each of its places.
@@ -83,20 +78,30 @@ fn energy(wh: u64) {
     let mut m = new();
     m.active.positive.wh.0 = wh;
     say::field(b"+Ea of ", wh);
-    show(b" Wh: register ", m, ENERGY_COUNT + POS_EA, 8);
-    show(b", wrap ", m, WRAP + POS_EA, 4);
-    show(b", Low ", m, LOW + POS_EA, 8);
-    show(b", High ", m, HIGH + POS_EA, 8);
-    say::text(b"\n");
+    say::text(b" Wh, register, wrap, Low and High:");
+    show(
+        m,
+        &[
+            ENERGY_COUNT + POS_EA,
+            WRAP + POS_EA,
+            LOW + POS_EA,
+            HIGH + POS_EA,
+        ],
+    );
 }
 
-// What is shown of a quantity, in hexadecimal as it is sent.
-fn show(name: &[u8], m: Meter, quantity: u16, digits: usize) {
+// What is shown of some quantities: the 32 bits of each, of which a W sends the lower 16.
+fn show(m: Meter, quantities: &[u16]) {
     if !m.within() {
         return;
     }
-    say::text(name);
-    say::hex(registers::shown(m, quantity) as u64, digits);
+    let mut i: usize = 0;
+    while i < quantities.len() {
+        say::text(b" ");
+        say::hex(registers::shown(m, quantities[i]) as u64, 8);
+        i += 1;
+    }
+    say::text(b"\n");
 }
 
 // Each refusal of a new meter and of a sample, once.
