@@ -1,6 +1,6 @@
 -- Each answer of the definitions, by the tests that lead to it.
 use mathlib.Core.Path.{_≡_, refl}
-use mathlib.Core.Bool.{true, false}
+use mathlib.Core.Bool.{Bool, true, false, cond}
 use Prim.Native.Nat.{ℕ}
 use lib.Dec.{eqb}
 use Rattle.refusal.specs.declared.Refusal.the-variants.{MeterOutOfLimits, RatioOutOfLimits, OwnAddressZero, SampleOutOfLimits, EnergyPastTop}
@@ -8,6 +8,7 @@ use Rattle.ratio.specs.declared.Ratios.{Ratios}
 use Rattle.ratio.specs.Ratios.{ratiosOk}
 use Rattle.meter.specs.declared.samples.Sample.{Sample}
 use Rattle.meter.specs.declared.Meter.{Meter}
+use Rattle.meter.specs.declared.Answered.{Answered}
 use Rattle.meter.specs.Samples.{sampleOk}
 use Rattle.meter.specs.Meters.{meterT, meterOk, blankOf, refusedOf, acceptedOf, newOf}
 use Rattle.meter.specs.After.{nextOf, meterBelowTop, afterOf}
@@ -24,6 +25,11 @@ module _ (address : ℕ) (ratios : Ratios) where
   pub new-made : ratiosOk ratios ≡ true → eqb address 0 ≡ false → newOf address ratios ≡ acceptedOf (blankOf address ratios)
   unfolding newOf
   new-made r a = rw (r, a) refl
+
+-- what follows from the three tests of a sample, in their order: m is the meter, n the next
+abbrev pub chosen : Bool → Bool → Bool → Meter → Meter → Answered
+chosen a b c m n =
+    cond a (cond b (cond c (acceptedOf n) (refusedOf EnergyPastTop m)) (refusedOf SampleOutOfLimits m)) (refusedOf MeterOutOfLimits m)
 
 module _ (m : Meter) (s : Sample) where
   pub after-1 : meterOk m ≡ false → afterOf m s ≡ refusedOf MeterOutOfLimits m

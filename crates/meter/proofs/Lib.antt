@@ -2,5 +2,5 @@ pub mod Tests
 pub mod Parts
 pub mod Cases
 pub mod Outcomes
-pub mod Within
+pub mod Answers
 pub mod Sums

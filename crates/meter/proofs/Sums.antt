@@ -4,18 +4,17 @@ use mathlib.Core.Bool.{Bool, true, false, cond}
 use mathlib.Core.List.{List, [], _∷_}
 use Prim.Native.Nat.{ℕ, zero, suc, _+_}
 use native.Mathlib.Omega.{arith}
-use Rattle.refusal.specs.declared.Refusal.the-variants.{MeterOutOfLimits, SampleOutOfLimits, EnergyPastTop}
 use Rattle.ratio.specs.declared.Ratios.{Ratios}
 use Rattle.meter.specs.declared.energies.Energy.{Energy}
 use Rattle.meter.specs.declared.samples.Sample.{Sample}
-use Rattle.meter.specs.declared.Answered.{Answered}
 use Rattle.meter.specs.declared.Meter.{Meter}
 use Rattle.meter.specs.Samples.{sampleOk}
 use Rattle.meter.specs.Energies.{plusOf, valueOf}
-use Rattle.meter.specs.Meters.{meterT, meterOk, blankOf, refusedOf, acceptedOf, newOf}
+use Rattle.meter.specs.Meters.{meterT, meterOk, blankOf, newOf}
 use Rattle.meter.specs.After.{nextOf, meterBelowTop, afterOf}
 use Rattle.meter.specs.Histories.{energyAt, carriesFor, isAccepted, afterAll, exactOf, EnergyIsSum}
-use Rattle.meter.proofs.Within.{new-blank}
+use Rattle.meter.proofs.Cases.{chosen}
+use Rattle.meter.proofs.Answers.{new-blank}
 
 -- the carry loses nothing
 plus-value : (e : Energy) (x : ℕ) → valueOf (plusOf e x) ≡ valueOf e + x
@@ -30,7 +29,7 @@ next-adds (suc (suc (suc zero))) m s = plus-value (m .reactive .negative) (carri
 next-adds (suc (suc (suc (suc e)))) m s = refl
 
 -- one sample, by its tests
-picked-adds : (a b c : Bool) (e : ℕ) (m : Meter) (s : Sample) → let r : Answered = cond a (cond b (cond c (acceptedOf (nextOf m s)) (refusedOf EnergyPastTop m)) (refusedOf SampleOutOfLimits m)) (refusedOf MeterOutOfLimits m) in valueOf (energyAt e (r .meter)) ≡ valueOf (energyAt e m) + cond (isAccepted (r .answer)) (carriesFor e s) 0
+picked-adds : (a b c : Bool) (e : ℕ) (m : Meter) (s : Sample) → valueOf (energyAt e (chosen a b c m (nextOf m s) .meter)) ≡ valueOf (energyAt e m) + cond (isAccepted (chosen a b c m (nextOf m s) .answer)) (carriesFor e s) 0
 picked-adds true true true e m s = next-adds e m s
 picked-adds true true false e m s = omega arith
 picked-adds true false c e m s = omega arith

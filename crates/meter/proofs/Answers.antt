@@ -31,13 +31,13 @@ use Rattle.meter.specs.Histories.{afterAll}
 use Rattle.meter.specs.Answers.{NewAnswers, SampleAnswers, StaysWithin, withSetup, SetupIdle}
 use Rattle.meter.proofs.Tests.{both, never}
 use Rattle.meter.proofs.Parts.{meter-parts}
-use Rattle.meter.proofs.Cases.{after-accepted}
+use Rattle.meter.proofs.Cases.{chosen, after-accepted}
 use Rattle.meter.proofs.Outcomes.{firstOf, first-fails, second-fails, third-fails, none-fails, not-accepted}
 
 -- ---- a sample
 
 -- the answer and the meter, by the three tests
-picked : (a b c : Bool) (m n : Meter) → cond a (cond b (cond c (acceptedOf n) (refusedOf EnergyPastTop m)) (refusedOf SampleOutOfLimits m)) (refusedOf MeterOutOfLimits m) .answer ≡ firstOf MeterOutOfLimits SampleOutOfLimits EnergyPastTop a b c
+picked : (a b c : Bool) (m n : Meter) → chosen a b c m n .answer ≡ firstOf MeterOutOfLimits SampleOutOfLimits EnergyPastTop a b c
 picked true true true m n = refl
 picked true true false m n = refl
 picked true false c m n = refl
@@ -61,7 +61,7 @@ one-six = apart (λ h. omega arith)
 five-six : SampleOutOfLimits ≡ EnergyPastTop → ⊥
 five-six = apart (λ h. omega arith)
 
-unchanged : (a b c : Bool) (m n : Meter) (reason : Refusal) → cond a (cond b (cond c (acceptedOf n) (refusedOf EnergyPastTop m)) (refusedOf SampleOutOfLimits m)) (refusedOf MeterOutOfLimits m) .answer ≡ Refused reason → cond a (cond b (cond c (acceptedOf n) (refusedOf EnergyPastTop m)) (refusedOf SampleOutOfLimits m)) (refusedOf MeterOutOfLimits m) .meter ≡ m
+unchanged : (a b c : Bool) (m n : Meter) (reason : Refusal) → chosen a b c m n .answer ≡ Refused reason → chosen a b c m n .meter ≡ m
 unchanged true true true m n reason h = not-accepted (sym h)
 unchanged true true false m n reason h = refl
 unchanged true false c m n reason h = refl
@@ -102,7 +102,7 @@ next-within m s hm hs ht =
     let q = powered-within (m .reactive) (threeOf (s .q)) ∙ t .1 in
     λ i. le-leb 1 (m .address) (k .address) i && k .ratios i && p i && q i && hs i && k .setup i
 
-kept : (a b c : Bool) (m n : Meter) → meterOk m ≡ true → (a ≡ true → b ≡ true → c ≡ true → meterOk n ≡ true) → meterOk (cond a (cond b (cond c (acceptedOf n) (refusedOf EnergyPastTop m)) (refusedOf SampleOutOfLimits m)) (refusedOf MeterOutOfLimits m) .meter) ≡ true
+kept : (a b c : Bool) (m n : Meter) → meterOk m ≡ true → (a ≡ true → b ≡ true → c ≡ true → meterOk n ≡ true) → meterOk (chosen a b c m n .meter) ≡ true
 kept true true true m n h k = k refl refl refl
 kept true true false m n h k = h
 kept true false c m n h k = h
