@@ -16,7 +16,7 @@ use Rattle.meter.specs.Meters.{meterT, setupWithin, meterOk, newOf}
 use Rattle.meter.specs.After.{nextOf, meterBelowTop, afterOf}
 use Rattle.meter.specs.Histories.{afterAll}
 
--- STATEMENT: a new meter is refused with 3 and with 4, and accepted, exactly when
+-- STATEMENT: a new meter is refused with 3 and with 4 exactly when, and accepted exactly when its record is within limits
 pub record NewAnswers : Type 0 where
   pub three : (a : ℕ) (r : Ratios) → (newOf a r .answer ≡ Refused RatioOutOfLimits) ↔ (ratiosOk r ≡ false)
   pub four : (a : ℕ) (r : Ratios) → (newOf a r .answer ≡ Refused OwnAddressZero) ↔ ((ratiosOk r ≡ true) × (a ≡ 0))

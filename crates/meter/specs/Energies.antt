@@ -13,6 +13,7 @@ use Rattle.meter.specs.declared.energies.Energies.{Energies}
 abbrev pub energyOk : Energy → Bool
 energyOk e = leb (e .wh .0) topWh && leb (e .remainder) 359999
 
+-- and so each of two
 abbrev pub energiesOk : Energies → Bool
 energiesOk es = energyOk (es .positive) && energyOk (es .negative)
 

@@ -20,6 +20,7 @@ use Rattle.meter.specs.After.{afterOf}
 abbrev pub energiesOf : Meter → List Energy
 energiesOf m = m .active .positive ∷ m .active .negative ∷ m .reactive .positive ∷ m .reactive .negative ∷ []
 
+-- the one of a number
 abbrev pub energyAt : ℕ → Meter → Energy
 energyAt e m = getD (energiesOf m) e noEnergy
 
@@ -27,6 +28,7 @@ energyAt e m = getD (energiesOf m) e noEnergy
 abbrev pub carriesOf : Sample → List ℕ
 carriesOf s = aboveOf (threeOf (s .p)) ∷ belowOf (threeOf (s .p)) ∷ aboveOf (threeOf (s .q)) ∷ belowOf (threeOf (s .q)) ∷ []
 
+-- what it carries for the one of a number
 abbrev pub carriesFor : ℕ → Sample → ℕ
 carriesFor e s = getD (carriesOf s) e 0
 

@@ -35,9 +35,11 @@ meterOk m =
     sampleOk (meterT m) (m .latest) &&
     setupWithin m
 
+-- an energy whose counter and remainder are 0
 abbrev pub noEnergy : Energy
 noEnergy = record { wh = record { 0 = 0 }; remainder = 0 }
 
+-- and two of them
 abbrev noEnergies : Energies
 noEnergies = record { positive = noEnergy; negative = noEnergy }
 
@@ -58,6 +60,7 @@ blankOf address ratios =
 abbrev pub refusedOf : Refusal → Meter → Answered
 refusedOf reason m = record { answer = Refused reason; meter = m }
 
+-- else the next record stands beside the answer
 abbrev pub acceptedOf : Meter → Answered
 acceptedOf m = record { answer = Accepted; meter = m }
 

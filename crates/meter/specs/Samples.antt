@@ -38,10 +38,11 @@ sampleOk t s =
     leb (s .sector) 2 &&
     (eqb (s .sequence) 1 || eqb (s .sequence) 2)
 
--- the sample of a new meter: 0 except sequence 1
+-- no power in any phase
 abbrev noPowers : Powers
 noPowers = record { l1 = pos 0; l2 = pos 0; l3 = pos 0 }
 
+-- the sample of a new meter: 0 except sequence 1
 abbrev pub noSample : Sample
 noSample =
     record {

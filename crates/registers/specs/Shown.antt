@@ -28,10 +28,11 @@ powersOf s =
     signedOf (s .q .l3) ∷
     []
 
+-- the one of a number; none beyond
 unfoldable pub powerAt : Sample → ℕ → Signed
 powerAt s which = getD (powersOf s) which (record { negative = false; magnitude = 0 })
 
--- P, Q, S registers hold a magnitude; S in whole VA besides
+-- P, Q, S registers hold a magnitude; S at 0x1530 in whole VA
 unfoldable pub powerValues : Meter → List ℕ
 powerValues m =
     map (λ (p : Signed). powerRegister (meterT m) (p .magnitude)) (powersOf (m .latest)) ++
@@ -49,10 +50,11 @@ signValues m = map (λ (p : Signed). signWord (p .negative)) (powersOf (m .lates
 unfoldable pub countValues : Meter → List ℕ
 countValues m = map (λ (e : Energy). registerOf (meterT m) (e .wh) .0) (energiesOf m)
 
--- Low and High
+-- Low is Wh modulo 1,000,000
 unfoldable pub lowValues : Meter → List ℕ
 lowValues m = map (λ (e : Energy). lowOf (e .wh)) (energiesOf m)
 
+-- High is Wh divided by 1,000,000, rounded down
 unfoldable pub highValues : Meter → List ℕ
 highValues m = map (λ (e : Energy). highOf (e .wh)) (energiesOf m)
 

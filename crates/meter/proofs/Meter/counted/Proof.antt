@@ -1,5 +1,9 @@
 -- The record and the sample are within limits, so every sum has room.
-use mathlib.Core.Path.{refl}
+use mathlib.Core.Path.{ap, _∙_}
+use Rattle.meter.specs.declared.energies.Energies.{Energies}
+use Rattle.meter.specs.declared.samples.Sample.{Sample}
+use Rattle.meter.specs.declared.Meter.{Meter}
+use Rattle.meter.specs.Energies.{withPower}
 use Rattle.meter.proofs.Parts.{held-p, held-q, room-active, room-reactive}
 use Rattle.meter.proofs.Meter.counted.Statement.{statement}
 use Rattle.meter.proofs.Meter.counted.Tie as tie
@@ -22,9 +26,25 @@ plus-requires-2 c κs =
     let s = c .before .before .before in
     rw (c .three2 .ensures) (room-reactive (s .args .self) (s .args .sample) (s .pre .0) (s .pre .1))
 
+-- a meter with other energies and another latest sample
+abbrev made : Meter → Sample → Energies → Energies → Meter
+made m s active reactive =
+    record {
+      address = m .address;
+      ratios = m .ratios;
+      active = active;
+      reactive = reactive;
+      latest = s;
+      standard = m .standard;
+      output = m .output;
+    }
+
 returns : tie.Need-returns
 returns c =
-    rw (c .before .before .plus .ensures, c .plus2 .ensures, c .before .before .before .three .ensures, c .before .three2 .ensures) refl
+    let s = c .before .before .before .before in
+    let p = c .before .before .plus .ensures ∙ ap (withPower (s .args .self .active)) (c .before .before .before .three .ensures) in
+    let q = c .plus2 .ensures ∙ ap (withPower (s .args .self .reactive)) (c .before .three2 .ensures) in
+    λ i. made (s .args .self) (s .args .sample) (p i) (q i)
 
 pub counted-spec : {M : Type 1} → statement M
 counted-spec =
