@@ -1,0 +1,91 @@
+-- The tests of a frame, by what the code finds first.
+use mathlib.Core.Path.{_≡_, refl, sym, _∙_}
+use mathlib.Core.Bool.{Bool, true, false, _&&_, _||_, not}
+use mathlib.Core.List.{List}
+use Prim.Native.Nat.{ℕ, _*_, _+_, _≤_, _<_}
+use lib.Dec.{leb, ltb, eqb}
+use lib.ListN.{length}
+use borrow.Author.Tests.{lt-ltb, le-ltb, ltb-false}
+use Rattle.refusal.specs.declared.ErrorCode.the-variants.{Data}
+use Rattle.crc.specs.Crc.{intact}
+use Rattle.directory.specs.declared.Item.{Item}
+use Rattle.directory.specs.declared.Span.the-variants.{Error}
+use Rattle.directory.specs.Run.{runIn}
+use Rattle.modbus.proofs.Tests.{never}
+use Rattle.modbus.specs.Frame.{addressOf, functionOf, startOf, numberOf, bytesOf, silence, writeShaped}
+use Rattle.modbus.specs.Read.{numberWrong, readIn}
+
+-- any of four tests, whichever is found true first
+abbrev any : Bool → Bool → Bool → Bool → Bool
+any a b c d = a || b || c || d
+
+first : (a b c d : Bool) → a ≡ true → true ≡ any a b c d
+first a b c d h = rw h refl
+
+third : (a b c d : Bool) → c ≡ true → true ≡ any a b c d
+third true true c d h = refl
+third true false c d h = refl
+third false true c d h = refl
+third false false c d h = rw h refl
+
+fourth : (a b c d : Bool) → d ≡ true → true ≡ any a b c d
+fourth true b c d h = refl
+fourth false true c d h = refl
+fourth false false true d h = refl
+fourth false false false d h = sym h
+
+second : (a b c d : Bool) → a ≡ false → c ≡ false → d ≡ false → b ≡ any a b c d
+second a true c d f g h = rw f refl
+second a false c d f g h = rw (f, g, h) refl
+
+neither : (a b : Bool) → (a || b) ≡ false → (a ≡ false) × (b ≡ false)
+neither true b h = never (sym h)
+neither false b h = (refl, h)
+
+module _ (own : ℕ) (frame : List ℕ) where
+  abbrev misfit : Bool
+  misfit = ltb (length frame) 4 || ltb 256 (length frame)
+
+  abbrev foreign : Bool
+  foreign = not (eqb (addressOf frame) 0) && not (eqb (addressOf frame) own)
+
+  pub by-length : misfit ≡ true → true ≡ silence own frame
+  unfolding silence
+  by-length = first misfit (not (intact frame)) foreign (leb 0x80 (functionOf frame))
+
+  pub by-address : foreign ≡ true → true ≡ silence own frame
+  unfolding silence
+  by-address = third misfit (not (intact frame)) foreign (leb 0x80 (functionOf frame))
+
+  pub by-function : leb 0x80 (functionOf frame) ≡ true → true ≡ silence own frame
+  unfolding silence
+  by-function = fourth misfit (not (intact frame)) foreign (leb 0x80 (functionOf frame))
+
+  pub by-crc : misfit ≡ false → foreign ≡ false → leb 0x80 (functionOf frame) ≡ false → not (intact frame) ≡ silence own frame
+  unfolding silence
+  by-crc = second misfit (not (intact frame)) foreign (leb 0x80 (functionOf frame))
+
+  pub long-enough : misfit ≡ false → 4 ≤ length frame
+  long-enough h = ltb-false (length frame) 4 (neither (ltb (length frame) 4) (ltb 256 (length frame)) h .0)
+
+  pub shape-short : length frame < 9 → false ≡ writeShaped frame
+  unfolding writeShaped
+  shape-short h = rw (lt-ltb (length frame) 9 h) refl
+
+  pub shape-long : 9 ≤ length frame → (not (eqb (numberOf frame) 0) && eqb (bytesOf frame) (2 * numberOf frame) && eqb (length frame) (9 + bytesOf frame)) ≡ writeShaped frame
+  unfolding writeShaped
+  shape-long h = rw (le-ltb (length frame) 9 h) refl
+
+-- a read, test by test
+module _ (dir : List Item) (frame : List ℕ) where
+  pub read-length : eqb (length frame) 8 ≡ false → Error Data ≡ readIn dir frame
+  unfolding readIn
+  read-length h = rw h refl
+
+  pub read-number : eqb (length frame) 8 ≡ true → numberWrong (numberOf frame) ≡ true → Error Data ≡ readIn dir frame
+  unfolding readIn
+  read-number h k = rw (h, k) refl
+
+  pub read-run : eqb (length frame) 8 ≡ true → numberWrong (numberOf frame) ≡ false → runIn dir (startOf frame) (numberOf frame) ≡ readIn dir frame
+  unfolding readIn
+  read-run h k = rw (h, k) refl

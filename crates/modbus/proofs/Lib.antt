@@ -1,0 +1,4 @@
+pub mod Tests
+pub mod Stores
+pub mod Rows
+pub mod Frames

@@ -1,0 +1,51 @@
+-- Paper 01, "What the meter does with a frame": the fields of a frame (documents 001 and 003, 2.2), and steps 2 and 5 as far
+-- as they speak of the frame alone.
+use Prim.Native.Nat.{ℕ, zero, suc, _+_, _*_}
+use mathlib.Core.Bool.{Bool, _&&_, _||_, not}
+use mathlib.Core.List.{List, [], _∷_}
+use lib.Dec.{leb, ltb, eqb}
+use lib.ListN.{length, getD}
+use Rattle.crc.specs.Crc.{intact}
+use Rattle.words.specs.Words.{wordAt}
+
+-- address, function
+abbrev pub addressOf : List ℕ → ℕ
+addressOf frame = getD frame 0 0
+
+abbrev pub functionOf : List ℕ → ℕ
+functionOf frame = getD frame 1 0
+
+-- start, word number; of a write, byte number
+abbrev pub startOf : List ℕ → ℕ
+startOf frame = wordAt frame 2
+
+abbrev pub numberOf : List ℕ → ℕ
+numberOf frame = wordAt frame 4
+
+abbrev pub bytesOf : List ℕ → ℕ
+bytesOf frame = getD frame 6 0
+
+-- n words that stand from a place on
+unfoldable pub wordsAt : ℕ → List ℕ → ℕ → List ℕ
+wordsAt zero l at = []
+wordsAt (suc n) l at = wordAt l at ∷ wordsAt n l (at + 2)
+
+-- of a write: the values, behind the byte number
+abbrev pub valuesOf : List ℕ → List ℕ
+valuesOf frame = wordsAt (numberOf frame) frame 7
+
+-- 2. Silence: fewer than 4 or more than 256 bytes; wrong CRC; address neither 0 nor own; function 0x80 or above
+unfoldable pub silence : ℕ → List ℕ → Bool
+silence own frame =
+    (ltb (length frame) 4 || ltb 256 (length frame)) ||
+    not (intact frame) ||
+    (not (eqb (addressOf frame) 0) && not (eqb (addressOf frame) own)) ||
+    leb 0x80 (functionOf frame)
+
+-- 5. Word number 0, byte number not twice the word number, or length not 9 plus byte number (length under 9 too): not so
+unfoldable pub writeShaped : List ℕ → Bool
+writeShaped frame =
+    not (ltb (length frame) 9) &&
+    (not (eqb (numberOf frame) 0) &&
+    eqb (bytesOf frame) (2 * numberOf frame) &&
+    eqb (length frame) (9 + bytesOf frame))

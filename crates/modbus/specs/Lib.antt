@@ -1,0 +1,3 @@
+pub mod Frame
+pub mod Read
+pub mod Replies
