@@ -1,4 +1,3 @@
-pub mod Tests
 pub mod Stores
 pub mod Rows
 pub mod Frames

@@ -1,0 +1,103 @@
+-- Each outcome of the definition, by the tests that lead to it.
+use mathlib.Core.Path.{_≡_, refl, sym, ap, _∙_}
+use mathlib.Core.Bool.{Bool, true, false, cond, false≢true}
+use mathlib.Core.List.{List}
+use Prim.Native.Nat.{ℕ}
+use native.Mathlib.Omega.{arith}
+use lib.Dec.{ltb, eqb}
+use lib.ListN.{length}
+use lib.Seq.{sets}
+use borrow.Author.Tests.{eq-eqb, ne-eqb, eqb-true}
+use Rattle.refusal.specs.declared.Refusal.the-variants.{MeterOutOfLimits, BufferShort}
+use Rattle.refusal.specs.declared.ErrorCode.{ErrorCode}
+use Rattle.refusal.specs.declared.ErrorCode.the-variants.{Function, Data}
+use Rattle.modbus.specs.declared.Verdict.{Verdict}
+use Rattle.modbus.specs.declared.Verdict.the-variants.{Good, Wrong}
+use Rattle.modbus.specs.Frame.{addressOf, functionOf, silence, writeShaped}
+use Rattle.modbus.specs.Replies.{errorReply}
+use Rattle.meter.specs.declared.Meter.{Meter}
+use Rattle.meter.specs.Meters.{meterOk}
+use Rattle.board.specs.declared.Reply.the-variants.{Sent}
+use Rattle.board.specs.declared.Handled.{Handled}
+use Rattle.board.specs.declared.writes.Written.{Written}
+use Rattle.board.specs.Reads.{readReply}
+use Rattle.board.specs.Writes.{writtenOf, writeReply}
+use Rattle.board.specs.Board.{Outcome, refusedOf, silentOf, sentOf, replyOf, isRead, isWrite, obeyedOf, boardOf}
+use Rattle.board.proofs.Stored.{misshaped}
+
+-- the two parts that a contract speaks of
+pub parts : {x y : Outcome} → x ≡ y → (x .handled ≡ y .handled) × (x .buffer ≡ y .buffer)
+parts e = (ap (λ (o : Outcome). o .handled) e, ap (λ (o : Outcome). o .buffer) e)
+
+module _ (m : Meter) (frame buffer : List ℕ) where
+  pub board-1 : meterOk m ≡ false → refusedOf MeterOutOfLimits m buffer ≡ boardOf m frame buffer
+  unfolding boardOf
+  board-1 h = rw h refl
+
+  pub board-2 : meterOk m ≡ true → ltb (length buffer) 256 ≡ true → refusedOf BufferShort m buffer ≡ boardOf m frame buffer
+  unfolding boardOf
+  board-2 h b = rw (h, b) refl
+
+  pub board-silent : meterOk m ≡ true → ltb (length buffer) 256 ≡ false → silence (m .address) frame ≡ true → silentOf m buffer ≡ boardOf m frame buffer
+  unfolding boardOf
+  board-silent h b s = rw (h, b, s) refl
+
+  pub board-obeys : meterOk m ≡ true → ltb (length buffer) 256 ≡ false → silence (m .address) frame ≡ false → obeyedOf m frame buffer ≡ boardOf m frame buffer
+  unfolding boardOf
+  board-obeys h b s = rw (h, b, s) refl
+
+  -- a write is no read
+  pub write-only : isWrite frame ≡ true → isRead frame ≡ false
+  write-only w = ap (λ (f : ℕ). eqb f 0x03) (eqb-true (functionOf frame) 0x10 w)
+
+  obeys-other : isRead frame ≡ false → isWrite frame ≡ false → replyOf frame (errorReply frame Function) m buffer ≡ obeyedOf m frame buffer
+  obeys-other r w = rw (r, w) refl
+
+  obeys-read : isRead frame ≡ true → replyOf frame (readReply m frame) m buffer ≡ obeyedOf m frame buffer
+  obeys-read r = rw r refl
+
+  obeys-write : isWrite frame ≡ true → replyOf frame (writeReply frame (writtenOf m frame .verdict)) (writtenOf m frame .meter) buffer ≡ obeyedOf m frame buffer
+  obeys-write w = rw (write-only w, w) refl
+
+  -- for all meters, and for this one
+  to-all : (bytes : List ℕ) (n : Meter) → addressOf frame ≡ 0 → silentOf n buffer ≡ replyOf frame bytes n buffer
+  to-all bytes n z = rw (eq-eqb (addressOf frame) 0 z) refl
+
+  to-one : (bytes : List ℕ) (n : Meter) → (addressOf frame ≡ 0 → ⊥) → (k : ℕ) (after : List ℕ) → k ≡ length bytes → after ≡ sets buffer 0 bytes → record { handled = record { reply = Sent k; meter = n }; buffer = after } ≡ replyOf frame bytes n buffer
+  to-one bytes n z k after l s = rw (ne-eqb (addressOf frame) 0 z, l, s) refl
+
+  pub read-sent : isRead frame ≡ true → (addressOf frame ≡ 0 → ⊥) → (k : ℕ) (after : List ℕ) → k ≡ length (readReply m frame) → after ≡ sets buffer 0 (readReply m frame) → record { handled = record { reply = Sent k; meter = m }; buffer = after } ≡ obeyedOf m frame buffer
+  read-sent r z k after l s = to-one (readReply m frame) m z k after l s ∙ obeys-read r
+
+  pub other-sent : isRead frame ≡ false → isWrite frame ≡ false → (addressOf frame ≡ 0 → ⊥) → (k : ℕ) (after : List ℕ) → k ≡ length (errorReply frame Function) → after ≡ sets buffer 0 (errorReply frame Function) → record { handled = record { reply = Sent k; meter = m }; buffer = after } ≡ obeyedOf m frame buffer
+  other-sent r w z k after l s = to-one (errorReply frame Function) m z k after l s ∙ obeys-other r w
+
+  pub unwritten : isWrite frame ≡ false → addressOf frame ≡ 0 → silentOf m buffer ≡ obeyedOf m frame buffer
+  unwritten w z = by (isRead frame) refl
+    where
+      by : (b : Bool) → isRead frame ≡ b → silentOf m buffer ≡ obeyedOf m frame buffer
+      by true r = to-all (readReply m frame) m z ∙ obeys-read r
+      by false r = to-all (errorReply frame Function) m z ∙ obeys-other r w
+
+  module _ (h : isWrite frame ≡ true) (w : Written) (e : w ≡ writtenOf m frame) where
+    pub write-silent : addressOf frame ≡ 0 → silentOf (w .meter) buffer ≡ obeyedOf m frame buffer
+    write-silent z = rw e (to-all (writeReply frame (writtenOf m frame .verdict)) (writtenOf m frame .meter) z ∙ obeys-write h)
+
+    pub write-sent : (addressOf frame ≡ 0 → ⊥) → (v : Verdict) → w .verdict ≡ v → (k : ℕ) (after : List ℕ) → k ≡ length (writeReply frame v) → after ≡ sets buffer 0 (writeReply frame v) → record { handled = record { reply = Sent k; meter = w .meter }; buffer = after } ≡ obeyedOf m frame buffer
+    write-sent z v q k after l s =
+        let p : v ≡ writtenOf m frame .verdict = sym q ∙ ap (λ (x : Written). x .verdict) e in
+        let l' = l ∙ ap (λ (x : Verdict). length (writeReply frame x)) p in
+        let s' = s ∙ ap (λ (x : Verdict). sets buffer 0 (writeReply frame x)) p in
+        rw e (to-one (writeReply frame (writtenOf m frame .verdict)) (writtenOf m frame .meter) z k after l' s' ∙ obeys-write h)
+
+-- a verdict is good or wrong
+good-wrong : {A : Type 0} {code : ErrorCode} → Wrong code ≡ Good → A
+good-wrong e = let z : _≡_ {A = ℕ} 0 1 = cc in let y : ⊥ = omega arith in absurd y
+
+-- a write that is stored is shaped
+pub good-shaped : (m : Meter) (frame : List ℕ) → writtenOf m frame .verdict ≡ Good → writeShaped frame ≡ true
+good-shaped m frame g = by (writeShaped frame) refl
+  where
+    by : (b : Bool) → writeShaped frame ≡ b → writeShaped frame ≡ true
+    by true h = h
+    by false h = good-wrong (ap (λ (x : Written). x .verdict) (misshaped m frame h) ∙ g)

@@ -1,0 +1,70 @@
+-- Each return has its tests behind it, and a law of the definition for them.
+use mathlib.Core.Path.{_≡_, sym, _∙_}
+use mathlib.Core.Bool.{true, false}
+use lib.Dec.{ltb}
+use lib.ListN.{length}
+use borrow.Author.Needs.{needs}
+use borrow.Author.Tests.{not-true, not-false, lt-ltb, le-ltb}
+use Rattle.modbus.specs.Frame.{silence}
+use Rattle.meter.specs.Meters.{meterOk}
+use Rattle.board.proofs.Cases.{parts, board-1, board-2, board-silent, board-obeys}
+use Rattle.board.proofs.handle.Statement.{statement}
+use Rattle.board.proofs.handle.Tie as tie
+
+within-requires : tie.Need-within-requires
+within-requires c κs = search needs
+
+within : (c : tie.Else1) → meterOk (c .before .before .before .before .args .meter) ≡ true
+within c = sym (c .before .within .ensures) ∙ not-false _ (c .if1 .left)
+
+room : (c : tie.Else2) → ltb (length (c .before .before .before .before .before .args .buffer .now)) 256 ≡ false
+room c = le-ltb _ _ (c .if2 .left)
+
+heard : (c : tie.Else3) → silence (c .before .before .before .before .before .before .before .args .meter .address) (c .before .before .before .before .before .before .before .args .frame .now) ≡ false
+heard c = sym (c .before .silence .ensures) ∙ c .if3 .left
+
+returns : tie.Need-returns
+returns c =
+    let s = c .before .before .before .before in
+    parts (board-1 (s .args .meter) (s .args .frame .now) (s .args .buffer .now) (sym (c .before .within .ensures) ∙ not-true _ (c .if1 .taken)))
+
+returns-2 : tie.Need-returns-2
+returns-2 c =
+    let s = c .before .before .before .before .before in
+    parts (board-2 (s .args .meter) (s .args .frame .now) (s .args .buffer .now) (within (c .before)) (lt-ltb _ _ (c .if2 .taken)))
+
+silence-requires : tie.Need-silence-requires
+silence-requires c κs = search needs
+
+returns-3 : tie.Need-returns-3
+returns-3 c =
+    let s = c .before .before .before .before .before .before .before in
+    parts (board-silent (s .args .meter) (s .args .frame .now) (s .args .buffer .now) (within (c .before .before .before)) (room (c .before .before)) (sym (c .before .silence .ensures) ∙ c .if3 .taken))
+
+obey-requires : tie.Need-obey-requires
+obey-requires c κs =
+    let s = c .before .before .before .before .before .before .before .before in
+    (within (c .before .before .before .before), (heard (c .before), c .before .before .before .if2 .left))
+
+same-length : tie.Need-same-length
+same-length c = search needs
+
+returns-4 : tie.Need-returns-4
+returns-4 c =
+    let s = c .before .before .before .before .before .before .before .before .before .before .before in
+    let b = board-obeys (s .args .meter) (s .args .frame .now) (s .args .buffer .now) (within (c .before .before .before .before .before .before .before)) (room (c .before .before .before .before .before .before)) (heard (c .before .before .before .before)) in
+    let e = c .before .before .obey .ensures in
+    (e .0 ∙ parts b .0, e .1 ∙ parts b .1)
+
+pub handle-spec : {M : Type 1} → statement M
+handle-spec =
+    tie.close
+    (tie.spec
+    within-requires
+    returns
+    returns-2
+    silence-requires
+    returns-3
+    obey-requires
+    same-length
+    returns-4)

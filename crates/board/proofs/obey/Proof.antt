@@ -1,0 +1,84 @@
+-- The function decides; what is for all meters is answered by none.
+use native.Mathlib.Omega.{arith}
+use borrow.Author.Needs.{needs}
+use borrow.Author.Tests.{eq-eqb, ne-eqb}
+use Rattle.modbus.proofs.Frames.{Heeded, heeded}
+use Rattle.board.proofs.Cases.{parts, unwritten, read-sent, other-sent}
+use Rattle.board.proofs.obey.Statement.{statement}
+use Rattle.board.proofs.obey.Tie as tie
+
+heard : (s : tie.Start) → Heeded (s .args .meter .address) (s .args .frame .now)
+heard s = heeded (s .args .meter .address) (s .args .frame .now) (s .pre .1 .0)
+
+shared-slice-read-if1 : tie.Need-shared-slice-read-if1
+shared-slice-read-if1 c = omega (arith, heard (c .before .before .before) .least)
+
+write-requires : tie.Need-write-requires
+write-requires c κs =
+    let s = c .before .before .before .before .before in
+    (s .pre .1 .0, (eq-eqb _ _ (c .before .if1 .taken), s .pre .1 .1))
+
+same-length : tie.Need-same-length
+same-length c = search needs
+
+returns : tie.Need-returns
+returns c = search needs
+
+shared-slice-read-if2 : tie.Need-shared-slice-read-if2
+shared-slice-read-if2 c = omega (arith, heard (c .before .before .before .before .before) .least)
+
+returns-2 : tie.Need-returns-2
+returns-2 c =
+    let s = c .before .before .before .before .before .before in
+    parts (unwritten (s .args .meter) (s .args .frame .now) (s .args .buffer .now) (ne-eqb _ _ (c .before .before .if1 .left)) (c .if2 .taken))
+
+shared-slice-read-if3 : tie.Need-shared-slice-read-if3
+shared-slice-read-if3 c = omega (arith, heard (c .before .before .before .before .before .before .before) .least)
+
+read-requires : tie.Need-read-requires
+read-requires c κs =
+    let s = c .before .before .before .before .before .before .before .before .before in
+    let h = heard s in
+    (s .pre .0, ((omega (arith, h .least), h .low), s .pre .1 .1))
+
+put-error-requires : tie.Need-put-error-requires
+put-error-requires c κs =
+    let s = c .before .before .before .before .before .before .before .before .before in
+    let h = heard s in
+    (omega (arith, h .least), h .low, s .pre .1 .1)
+
+same-length-2 : tie.Need-same-length-2
+same-length-2 c = search needs
+
+returns-3 : tie.Need-returns-3
+returns-3 c =
+    let s = c .before .before .before .before .before .before .before .before .before .before .before .before in
+    let e = c .before .before .read .ensures in
+    parts (read-sent (s .args .meter) (s .args .frame .now) (s .args .buffer .now) (eq-eqb _ _ (c .before .before .before .before .if3 .taken)) (c .before .before .before .before .before .before .if2 .left) _ _ (e .0) (e .1))
+
+same-length-3 : tie.Need-same-length-3
+same-length-3 c = search needs
+
+returns-4 : tie.Need-returns-4
+returns-4 c =
+    let s = c .before .before .before .before .before .before .before .before .before .before .before .before in
+    let e = c .before .before .put-error .ensures in
+    parts (other-sent (s .args .meter) (s .args .frame .now) (s .args .buffer .now) (ne-eqb _ _ (c .before .before .before .before .if3 .left)) (ne-eqb _ _ (c .before .before .before .before .before .before .before .before .if1 .left)) (c .before .before .before .before .before .before .if2 .left) _ _ (e .0) (e .1))
+
+pub obey-spec : {M : Type 1} → statement M
+obey-spec =
+    tie.close
+    (tie.spec
+    shared-slice-read-if1
+    write-requires
+    same-length
+    returns
+    shared-slice-read-if2
+    returns-2
+    shared-slice-read-if3
+    read-requires
+    put-error-requires
+    same-length-2
+    returns-3
+    same-length-3
+    returns-4)

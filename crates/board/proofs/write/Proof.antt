@@ -1,0 +1,81 @@
+-- What the write came to is stored and, unless it is for all meters, answered by its verdict.
+use mathlib.Core.Path.{_≡_}
+use native.Mathlib.Omega.{arith}
+use borrow.Author.Needs.{needs}
+use Rattle.modbus.specs.declared.Verdict.the-variants.{Good, Wrong}
+use Rattle.modbus.proofs.Frames.{heeded, shaped-length}
+use Rattle.board.specs.Writes.{writtenOf}
+use Rattle.board.proofs.Cases.{parts, write-silent, write-sent, good-shaped}
+use Rattle.board.proofs.write.Statement.{statement}
+use Rattle.board.proofs.write.Tie as tie
+
+write-requires : tie.Need-write-requires
+write-requires c κs = search needs
+
+shared-slice-read-if1 : tie.Need-shared-slice-read-if1
+shared-slice-read-if1 c =
+    let s = c .before .before .before .before .before in
+    omega (arith, heeded (s .args .meter .address) (s .args .frame .now) (s .pre .0) .least)
+
+returns : tie.Need-returns
+returns c =
+    let s = c .before .before .before .before .before .before in
+    let w = c .before .before .before .write in
+    parts (write-silent (s .args .meter) (s .args .frame .now) (s .args .buffer .now) (s .pre .1 .0) (w .result) (w .ensures) (c .if1 .taken))
+
+enum-told : tie.Need-enum-told
+enum-told c = search needs
+
+put-echo-requires : tie.Need-put-echo-requires
+put-echo-requires c κs =
+    let s = c .before .before .before .before .before .before .before .before .before in
+    let good : writtenOf (s .args .meter) (s .args .frame .now) .verdict ≡ Good = cc in
+    (omega (arith, shaped-length 0 (s .args .frame .now) (good-shaped (s .args .meter) (s .args .frame .now) good) .0), s .pre .1 .1)
+
+enum-known-verdict : tie.Need-enum-known-verdict
+enum-known-verdict c = search needs
+
+put-error-requires : tie.Need-put-error-requires
+put-error-requires c κs =
+    let s = c .before .before .before .before .before .before .before .before .before .before in
+    let h = heeded (s .args .meter .address) (s .args .frame .now) (s .pre .0) in
+    (omega (arith, h .least), h .low, s .pre .1 .1)
+
+same-length : tie.Need-same-length
+same-length c = search needs
+
+returns-2 : tie.Need-returns-2
+returns-2 c =
+    let s = c .before .before .before .before .before .before .before .before .before .before .before .before in
+    let w = c .before .before .before .before .before .before .before .before .before .write in
+    let good : w .result .verdict ≡ Good = cc in
+    let e = c .before .before .put-echo .ensures in
+    parts (write-sent (s .args .meter) (s .args .frame .now) (s .args .buffer .now) (s .pre .1 .0) (w .result) (w .ensures) (c .before .before .before .before .before .before .if1 .left) Good good _ _ (e .0) (e .1))
+
+same-length-2 : tie.Need-same-length-2
+same-length-2 c = search needs
+
+returns-3 : tie.Need-returns-3
+returns-3 c =
+    let s = c .before .before .before .before .before .before .before .before .before .before .before .before .before in
+    let w = c .before .before .before .before .before .before .before .before .before .before .write in
+    let code = c .before .before .before .before .before .verdict .given .0 .0 in
+    let wrong : w .result .verdict ≡ Wrong code = cc in
+    let e = c .before .before .put-error .ensures in
+    parts (write-sent (s .args .meter) (s .args .frame .now) (s .args .buffer .now) (s .pre .1 .0) (w .result) (w .ensures) (c .before .before .before .before .before .before .before .if1 .left) (Wrong code) wrong _ _ (e .0) (e .1))
+
+pub write-spec : {M : Type 1} → statement M
+write-spec =
+    tie.close
+    (tie.spec
+    write-requires
+    shared-slice-read-if1
+    returns
+    enum-told
+    put-echo-requires
+    enum-known-verdict
+    put-error-requires
+    same-length
+    returns-2
+    same-length-2
+    returns-3)

@@ -1,0 +1,62 @@
+-- Paper 01, "What the meter does with a frame": its five steps in their order, first that applies, and address 0.
+use Prim.Native.Nat.{ℕ}
+use mathlib.Core.Bool.{Bool, _&&_, not, cond}
+use mathlib.Core.List.{List}
+use lib.Dec.{ltb, eqb}
+use lib.ListN.{length}
+use lib.Seq.{sets}
+use Rattle.refusal.specs.declared.Refusal.{Refusal}
+use Rattle.refusal.specs.declared.Refusal.the-variants.{MeterOutOfLimits, BufferShort}
+use Rattle.refusal.specs.declared.ErrorCode.the-variants.{Function}
+use Rattle.modbus.specs.Frame.{addressOf, functionOf, silence}
+use Rattle.modbus.specs.Replies.{errorReply}
+use Rattle.meter.specs.declared.Meter.{Meter}
+use Rattle.meter.specs.Meters.{meterOk}
+use Rattle.board.specs.declared.Reply.{Reply}
+use Rattle.board.specs.declared.Reply.the-variants.{Silent, Sent, Refused}
+use Rattle.board.specs.declared.Handled.{Handled}
+use Rattle.board.specs.Reads.{readReply}
+use Rattle.board.specs.Writes.{writtenOf, writeReply}
+
+-- what a frame leads to: the answer with the meter's record, and the reply buffer
+pub record Outcome : Type 0 where
+  pub handled : Handled
+  pub buffer : List ℕ
+
+-- a refusal returns its number; every record and buffer is as before
+abbrev pub refusedOf : Refusal → Meter → List ℕ → Outcome
+refusedOf reason m buffer = record { handled = record { reply = Refused reason; meter = m }; buffer = buffer }
+
+-- on silence all reply bytes stay as they were
+abbrev pub silentOf : Meter → List ℕ → Outcome
+silentOf m buffer = record { handled = record { reply = Silent; meter = m }; buffer = buffer }
+
+-- a reply stands at the start of the buffer; the bytes beyond its length stay as they were
+abbrev pub sentOf : List ℕ → Meter → List ℕ → Outcome
+sentOf bytes m buffer = record { handled = record { reply = Sent (length bytes); meter = m }; buffer = sets buffer 0 bytes }
+
+-- address 0: silence is kept always
+abbrev pub replyOf : List ℕ → List ℕ → Meter → List ℕ → Outcome
+replyOf frame bytes m buffer = cond (eqb (addressOf frame) 0) (silentOf m buffer) (sentOf bytes m buffer)
+
+-- function 0x03, function 0x10
+abbrev pub isRead : List ℕ → Bool
+isRead frame = eqb (functionOf frame) 0x03
+
+abbrev pub isWrite : List ℕ → Bool
+isWrite frame = eqb (functionOf frame) 0x10
+
+-- 3. Function neither 0x03 nor 0x10: error 01. 4. 0x03: a read. 5. 0x10: a write; only a stored one alters the record
+abbrev pub obeyedOf : Meter → List ℕ → List ℕ → Outcome
+obeyedOf m frame buffer =
+    cond (not (isRead frame) && not (isWrite frame)) (replyOf frame (errorReply frame Function) m buffer)
+    (cond (isRead frame) (replyOf frame (readReply m frame) m buffer)
+    (replyOf frame (writeReply frame (writtenOf m frame .verdict)) (writtenOf m frame .meter) buffer))
+
+-- 1. Record out of limits: refusal 1. Reply buffer under 256 bytes: refusal 2. 2. Silence. 3 to 5. as above
+unfoldable pub boardOf : Meter → List ℕ → List ℕ → Outcome
+boardOf m frame buffer =
+    cond (not (meterOk m)) (refusedOf MeterOutOfLimits m buffer)
+    (cond (ltb (length buffer) 256) (refusedOf BufferShort m buffer)
+    (cond (silence (m .address) frame) (silentOf m buffer)
+    (obeyedOf m frame buffer)))

@@ -1,0 +1,54 @@
+-- Paper 01, "What the meter does with a frame", step 5: how a write is judged, its reply, and what it stores.
+use Prim.Native.Nat.{ℕ}
+use mathlib.Core.Bool.{Bool, _&&_, not, cond}
+use mathlib.Core.List.{List}
+use lib.Dec.{eqb}
+use Rattle.refusal.specs.declared.ErrorCode.{ErrorCode}
+use Rattle.refusal.specs.declared.ErrorCode.the-variants.{Address, Data}
+use Rattle.setup.specs.Ranges.{groupOk}
+use Rattle.modbus.specs.declared.Verdict.{Verdict}
+use Rattle.modbus.specs.declared.Verdict.the-variants.{Good, Wrong}
+use Rattle.modbus.specs.Frame.{startOf, numberOf, valuesOf, writeShaped}
+use Rattle.modbus.specs.Replies.{errorReply, echoReply}
+use Rattle.meter.specs.declared.Meter.{Meter}
+use Rattle.meter.specs.Answers.{withSetup}
+use Rattle.board.specs.declared.writes.Written.{Written}
+
+-- the group of 16 words (0x2000)
+abbrev pub toStandard : List ℕ → Bool
+toStandard frame = eqb (startOf frame) 0x2000
+
+-- the group of 24 words (0x2200)
+abbrev pub toOutput : List ℕ → Bool
+toOutput frame = eqb (startOf frame) 0x2200
+
+-- the words of the group that a write goes to
+abbrev pub groupWords : List ℕ → ℕ
+groupWords frame = cond (toStandard frame) 16 24
+
+-- the group is stored: replaced whole, and nothing else
+abbrev pub storedOf : Meter → List ℕ → Meter
+storedOf m frame =
+    cond (toStandard frame)
+    (withSetup m (valuesOf frame) (m .output))
+    (withSetup m (m .standard) (valuesOf frame))
+
+-- an error, and the record as it was
+abbrev pub wrongOf : Meter → ErrorCode → Written
+wrongOf m code = record { verdict = Wrong code; meter = m }
+
+-- 5. Word number 0, byte number not twice the word number, or length not 9 plus byte number: error 03. Start neither 0x2000
+-- nor 0x2200: error 02. Word number not 16, or 24, for that group: error 03. A value out of range: error 03. Else the group is
+-- stored
+unfoldable pub writtenOf : Meter → List ℕ → Written
+writtenOf m frame =
+    cond (not (writeShaped frame)) (wrongOf m Data)
+    (cond (not (toStandard frame) && not (toOutput frame)) (wrongOf m Address)
+    (cond (not (eqb (numberOf frame) (groupWords frame))) (wrongOf m Data)
+    (cond (not (groupOk (startOf frame) (valuesOf frame))) (wrongOf m Data)
+    (record { verdict = Good; meter = storedOf m frame }))))
+
+-- and address, function, start and word number are echoed
+abbrev pub writeReply : List ℕ → Verdict → List ℕ
+writeReply frame (Wrong code) = errorReply frame code
+writeReply frame Good = echoReply frame

@@ -1,0 +1,108 @@
+// The board: a frame in, the reply out (paper 01, "What the meter does with a frame").
+mod reads;
+mod writes;
+
+ghost use mathlib.Core.Path.{_≡_};
+ghost use mathlib.Core.Bool.{true, false};
+ghost use Prim.Native.Nat.{_≤_};
+ghost use lib.ListN.{length};
+ghost use Rattle.modbus.specs.Frame.{silence};
+ghost use Rattle.meter.specs.Meters.{meterOk};
+ghost use Rattle.board.specs.Board.{isWrite, obeyedOf, boardOf};
+use meter::Meter;
+use modbus::Verdict;
+use refusal::ErrorCode;
+use refusal::Refusal;
+
+pub enum Reply {
+    Silent,
+    // So many bytes at the start of the buffer.
+    Sent(usize),
+    Refused(Refusal),
+}
+
+// A reply, beside the meter that follows from the frame.
+pub struct Handled {
+    pub reply: Reply,
+    pub meter: Meter,
+}
+
+// What a meter does with a frame. A reply is put at the start of the buffer, and the rest of it stays.
+pub fn handle(meter: Meter, frame: &[u8], buffer: &mut [u8]) -> Handled
+    ensures { λ r. ⌜ r ≡ boardOf meter (now (frame .entry)) (now (buffer .entry)) .handled ⌝ }
+    ensures { λ _. ⌜ now (buffer .exit) ≡ boardOf meter (now (frame .entry)) (now (buffer .entry)) .buffer ⌝ }
+{
+    if !meter.within() {
+        return Handled {
+            reply: Reply::Refused(Refusal::MeterOutOfLimits),
+            meter,
+        };
+    }
+    if buffer.len() < modbus::FRAME_MOST {
+        return Handled {
+            reply: Reply::Refused(Refusal::BufferShort),
+            meter,
+        };
+    }
+    if modbus::silence(meter.address, frame) {
+        return Handled {
+            reply: Reply::Silent,
+            meter,
+        };
+    }
+    obey(meter, frame, buffer)
+}
+
+// The function of a frame that the meter heeds. Only a write does anything when it is for all meters.
+fn obey(meter: Meter, frame: &[u8], buffer: &mut [u8]) -> Handled
+    requires { ⌜ meterOk meter ≡ true ⌝ }
+    requires { ⌜ silence (meter .address) (now frame) ≡ false ⌝ }
+    requires { ⌜ 256 ≤ length (now buffer) ⌝ }
+    ensures { λ r. ⌜ r ≡ obeyedOf meter (now (frame .entry)) (now (buffer .entry)) .handled ⌝ }
+    ensures { λ _. ⌜ now (buffer .exit) ≡ obeyedOf meter (now (frame .entry)) (now (buffer .entry)) .buffer ⌝ }
+{
+    if frame[1] == modbus::WRITE {
+        return write(meter, frame, buffer);
+    }
+    if frame[0] == modbus::BROADCAST {
+        return Handled {
+            reply: Reply::Silent,
+            meter,
+        };
+    }
+    let length = if frame[1] == modbus::READ {
+        reads::read(meter, frame, buffer)
+    } else {
+        modbus::put_error(frame, ErrorCode::Function, buffer)
+    };
+    Handled {
+        reply: Reply::Sent(length),
+        meter,
+    }
+}
+
+fn write(meter: Meter, frame: &[u8], buffer: &mut [u8]) -> Handled
+    requires { ⌜ silence (meter .address) (now frame) ≡ false ⌝ }
+    requires { ⌜ isWrite (now frame) ≡ true ⌝ }
+    requires { ⌜ 256 ≤ length (now buffer) ⌝ }
+    ensures { λ r. ⌜ r ≡ obeyedOf meter (now (frame .entry)) (now (buffer .entry)) .handled ⌝ }
+    ensures { λ _. ⌜ now (buffer .exit) ≡ obeyedOf meter (now (frame .entry)) (now (buffer .entry)) .buffer ⌝ }
+{
+    let written = writes::write(meter, frame);
+    let next = written.meter;
+    if frame[0] == modbus::BROADCAST {
+        return Handled {
+            reply: Reply::Silent,
+            meter: next,
+        };
+    }
+    let verdict = written.verdict;
+    let length = match verdict {
+        Verdict::Good => modbus::put_echo(frame, buffer),
+        Verdict::Wrong(code) => modbus::put_error(frame, code, buffer),
+    };
+    Handled {
+        reply: Reply::Sent(length),
+        meter: next,
+    }
+}

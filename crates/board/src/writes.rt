@@ -1,0 +1,78 @@
+// What a write stores (paper 01, "What the meter does with a frame", step 5).
+ghost use mathlib.Core.Path.{_≡_};
+ghost use mathlib.Core.Bool.{true, false};
+ghost use Rattle.modbus.specs.Frame.{writeShaped};
+ghost use Rattle.board.specs.Writes.{toStandard, toOutput, writtenOf, wrongOf};
+use meter::Meter;
+use modbus::Verdict;
+use refusal::ErrorCode;
+
+// How a write is judged, beside the meter that follows from it.
+pub struct Written {
+    pub verdict: Verdict,
+    pub meter: Meter,
+}
+
+pub(crate) fn write(m: Meter, frame: &[u8]) -> Written
+    ensures { λ r. ⌜ r ≡ writtenOf m (now (frame .entry)) ⌝ }
+{
+    if !modbus::write_shaped(frame) {
+        return wrong(m, ErrorCode::Data);
+    }
+    match words::word_at(frame, 2) {
+        0x2000 => standard(m, frame),
+        0x2200 => output(m, frame),
+        _ => wrong(m, ErrorCode::Address),
+    }
+}
+
+fn wrong(m: Meter, code: ErrorCode) -> Written
+    ensures { λ r. ⌜ r ≡ wrongOf m code ⌝ }
+{
+    Written {
+        verdict: Verdict::Wrong(code),
+        meter: m,
+    }
+}
+
+// A write to the 16 words from 0x2000 on.
+fn standard(m: Meter, frame: &[u8]) -> Written
+    requires { ⌜ (writeShaped (now frame) ≡ true) × (toStandard (now frame) ≡ true) ⌝ }
+    ensures { λ r. ⌜ r ≡ writtenOf m (now (frame .entry)) ⌝ }
+{
+    let mut group = [0u16; 16];
+    if words::word_at(frame, 4) != 16 {
+        return wrong(m, ErrorCode::Data);
+    }
+    modbus::values(frame, &mut group);
+    if !setup::standard_ok(group) {
+        return wrong(m, ErrorCode::Data);
+    }
+    let mut next = m;
+    next.standard = group;
+    Written {
+        verdict: Verdict::Good,
+        meter: next,
+    }
+}
+
+// A write to the 24 words from 0x2200 on.
+fn output(m: Meter, frame: &[u8]) -> Written
+    requires { ⌜ (writeShaped (now frame) ≡ true) × (toStandard (now frame) ≡ false) × (toOutput (now frame) ≡ true) ⌝ }
+    ensures { λ r. ⌜ r ≡ writtenOf m (now (frame .entry)) ⌝ }
+{
+    let mut group = [0u16; 24];
+    if words::word_at(frame, 4) != 24 {
+        return wrong(m, ErrorCode::Data);
+    }
+    modbus::values(frame, &mut group);
+    if !setup::output_ok(group) {
+        return wrong(m, ErrorCode::Data);
+    }
+    let mut next = m;
+    next.output = group;
+    Written {
+        verdict: Verdict::Good,
+        meter: next,
+    }
+}
