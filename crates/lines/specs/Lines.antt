@@ -1,0 +1,95 @@
+-- Paper 01, the program `bench`: one frame a line as hex pairs, either case, parted by single spaces; the reply so in
+-- capitals.
+use mathlib.Core.Path.{_≡_}
+use Prim.Native.Nat.{ℕ, _+_, _-_, _*_, _/_, _%_, _<_, min}
+use mathlib.Core.Bool.{Bool, true, false, _&&_, cond}
+use mathlib.Core.List.{List, [], _∷_, _++_}
+use lib.Dec.{leb, ltb, eqb}
+use lib.ListN.{length, getD, take, drop}
+use Rattle.lines.specs.declared.HexPair.{HexPair}
+use Rattle.lines.specs.declared.HexPair.the-variants.{Byte, NoPair}
+use Rattle.lines.specs.declared.Line.{Line}
+use Rattle.lines.specs.declared.Line.the-variants.{Frame, Bad}
+
+-- each line feed ends a line, as does the end of input
+unfoldable pub lineLength : List ℕ → ℕ
+lineLength [] = 0
+lineLength (c ∷ cs) = cond (eqb c 0x0A) 0 (1 + lineLength cs)
+
+-- the value of a hex digit, either case; 16 where it is none
+abbrev pub digitOf : ℕ → ℕ
+digitOf c =
+    cond (leb 0x30 c && leb c 0x39) (c - 0x30)
+    (cond (leb 0x41 c && leb c 0x46) (c - 0x37)
+    (cond (leb 0x61 c && leb c 0x66) (c - 0x57)
+    16))
+
+-- two hex digits
+abbrev pub pairOk : ℕ → ℕ → Bool
+pairOk upper lower = ltb (digitOf upper) 16 && ltb (digitOf lower) 16
+
+-- their byte
+abbrev pub byteOf : ℕ → ℕ → ℕ
+byteOf upper lower = 16 * digitOf upper + digitOf lower
+
+-- a hex pair in, its byte out
+abbrev pub pairOf : ℕ → ℕ → HexPair
+pairOf upper lower = cond (pairOk upper lower) (Byte (byteOf upper lower)) NoPair
+
+-- hex pairs, parted by single spaces
+unfoldable pub pairsOk : List ℕ → Bool
+pairsOk (upper ∷ lower ∷ space ∷ rest) = pairOk upper lower && eqb space 0x20 && pairsOk rest
+pairsOk (upper ∷ lower ∷ []) = pairOk upper lower
+pairsOk (c ∷ []) = false
+pairsOk [] = false
+
+-- their bytes
+unfoldable pub bytesOf : List ℕ → List ℕ
+bytesOf (upper ∷ lower ∷ space ∷ rest) = byteOf upper lower ∷ bytesOf rest
+bytesOf (upper ∷ lower ∷ []) = byteOf upper lower ∷ []
+bytesOf (c ∷ []) = []
+bytesOf [] = []
+
+-- an empty line is an empty frame; any other holds pairs
+abbrev pub lineOk : List ℕ → Bool
+lineOk [] = true
+lineOk (c ∷ cs) = pairsOk (c ∷ cs)
+
+-- bytes at the start of a buffer, the rest of it as it was
+abbrev pub over : List ℕ → List ℕ → List ℕ
+over bytes buffer = bytes ++ drop (length bytes) buffer
+
+-- a line in, its frame out: as much of it as there is room for
+abbrev pub lineOf : List ℕ → ℕ → Line
+lineOf line room = cond (lineOk line) (Frame (min (length (bytesOf line)) room)) Bad
+
+-- the buffer then
+abbrev pub frameOver : List ℕ → List ℕ → List ℕ
+frameOver line buffer = cond (lineOk line) (over (take (length buffer) (bytesOf line)) buffer) buffer
+
+-- a hex digit, in capitals
+abbrev pub capital : ℕ → ℕ
+capital d = cond (ltb d 10) (0x30 + d) (0x37 + d)
+
+-- bytes as hex pairs in capitals, parted by single spaces
+unfoldable pub textOf : List ℕ → List ℕ
+textOf [] = []
+textOf (b ∷ []) = capital (b / 16) ∷ capital (b % 16) ∷ []
+textOf (b ∷ c ∷ bs) = capital (b / 16) ∷ capital (b % 16) ∷ 0x20 ∷ textOf (c ∷ bs)
+
+-- there is room for three characters a byte
+abbrev pub textFits : List ℕ → ℕ → Bool
+textFits bytes room = leb (3 * length bytes) room
+
+-- bytes in, the length of their text out
+abbrev pub textLength : List ℕ → ℕ → ℕ
+textLength bytes room = cond (textFits bytes room) (length (textOf bytes)) 0
+
+-- the buffer then
+abbrev pub textOver : List ℕ → List ℕ → List ℕ
+textOver bytes buffer = cond (textFits bytes (length buffer)) (over (textOf bytes) buffer) buffer
+
+-- STATEMENT: what is written as a line is read as the same bytes
+pub record TextBack : Type 0 where
+  pub good : (bytes : List ℕ) → ((i : ℕ) → getD bytes i 0 < 256) → lineOk (textOf bytes) ≡ true
+  pub same : (bytes : List ℕ) → ((i : ℕ) → getD bytes i 0 < 256) → bytesOf (textOf bytes) ≡ bytes

@@ -1,0 +1,179 @@
+// One frame a line, as hex pairs parted by single spaces (paper 01, the program `bench`).
+ghost use mathlib.Core.Path.{_≡_};
+ghost use Prim.Native.Nat.{_+_, _*_, _/_, _%_, _≤_, _<_, min};
+ghost use mathlib.Core.Bool.{true};
+ghost use mathlib.Core.List.{[], _∷_};
+ghost use lib.ListN.{length, take, drop};
+ghost use lib.Seq.{sets};
+ghost use Rattle.lines.specs.Lines.{lineLength, digitOf, pairOk, byteOf, pairOf, bytesOf, lineOk, lineOf, over, frameOver, capital, textOf, textLength, textOver};
+
+pub const LINE_FEED: u8 = 0x0A;
+
+pub const SPACE: u8 = 0x20;
+
+pub enum HexPair {
+    Byte(u8),
+    NoPair,
+}
+
+// A line: a frame and how many of its bytes had room, or none.
+pub enum Line {
+    Frame(usize),
+    Bad,
+}
+
+// Where the line that begins at `from` ends: at the next line feed, or with the input.
+pub fn line_end(input: &[u8], from: usize) -> usize
+    ensures { λ r. ⌜ r ≡ from + lineLength (drop from (now (input .entry))) ⌝ }
+{
+    let mut i = from;
+    while i < input.len() {
+        if input[i] == LINE_FEED {
+            return i;
+        }
+        i += 1;
+    }
+    i
+}
+
+// The byte of two hex digits, either case.
+pub fn pair(upper: u8, lower: u8) -> HexPair
+    ensures { λ r. ⌜ r ≡ pairOf upper lower ⌝ }
+{
+    if pair_ok(upper, lower) {
+        HexPair::Byte(byte_of(upper, lower))
+    } else {
+        HexPair::NoPair
+    }
+}
+
+// 16 stands for what is no digit, so that one test tells.
+fn digit(c: u8) -> u8
+    ensures { λ r. ⌜ r ≡ digitOf c ⌝ }
+{
+    if (b'0' <= c) & (c <= b'9') {
+        return c - b'0';
+    }
+    if (b'A' <= c) & (c <= b'F') {
+        return c - b'A' + 10;
+    }
+    if (b'a' <= c) & (c <= b'f') {
+        return c - b'a' + 10;
+    }
+    16
+}
+
+fn pair_ok(upper: u8, lower: u8) -> bool
+    ensures { λ r. ⌜ r ≡ pairOk upper lower ⌝ }
+{
+    (digit(upper) < 16) & (digit(lower) < 16)
+}
+
+fn byte_of(upper: u8, lower: u8) -> u8
+    requires { ⌜ (digitOf upper < 16) × (digitOf lower < 16) ⌝ }
+    ensures { λ r. ⌜ r ≡ byteOf upper lower ⌝ }
+{
+    16 * digit(upper) + digit(lower)
+}
+
+// Puts the frame that a line holds at the start of the buffer, as much of it as there is room for. A bad line changes nothing.
+pub fn frame(line: &[u8], buffer: &mut [u8]) -> Line
+    ensures { λ r. ⌜ r ≡ lineOf (now (line .entry)) (length (now (buffer .entry))) ⌝ }
+    ensures { λ _. ⌜ now (buffer .exit) ≡ frameOver (now (line .entry)) (now (buffer .entry)) ⌝ }
+{
+    if line_ok(line) {
+        Line::Frame(put_bytes(line, buffer))
+    } else {
+        Line::Bad
+    }
+}
+
+// A line is tested whole before a byte of it is put: a bad one changes nothing.
+fn line_ok(line: &[u8]) -> bool
+    ensures { λ r. ⌜ r ≡ lineOk (now (line .entry)) ⌝ }
+{
+    let n = line.len();
+    if n == 0 {
+        return true;
+    }
+    let mut i = 0;
+    while 2 < n - i {
+        if pair_ok(line[i], line[i + 1]) & (line[i + 2] == SPACE) {
+            i += 3;
+        } else {
+            return false;
+        }
+    }
+    if n - i != 2 {
+        return false;
+    }
+    pair_ok(line[i], line[i + 1])
+}
+
+// Each pair starts three characters behind the one before it. Answers how many bytes it put.
+fn put_bytes(line: &[u8], buffer: &mut [u8]) -> usize
+    requires { ⌜ lineOk (now line) ≡ true ⌝ }
+    ensures { λ r. ⌜ r ≡ min (length (bytesOf (now (line .entry)))) (length (now (buffer .entry))) ⌝ }
+    ensures { λ _. ⌜ now (buffer .exit) ≡ over (take (length (now (buffer .entry))) (bytesOf (now (line .entry)))) (now (buffer .entry)) ⌝ }
+{
+    let n = least((line.len() + 1) / 3, buffer.len());
+    let mut i = 0;
+    while i < n {
+        buffer[i] = byte_of(line[3 * i], line[3 * i + 1]);
+        i += 1;
+    }
+    n
+}
+
+fn least(a: usize, b: usize) -> usize
+    ensures { λ r. ⌜ r ≡ min a b ⌝ }
+{
+    if a < b { a } else { b }
+}
+
+// Puts bytes as hex pairs in capitals at the start of the buffer, and answers how many characters they are. Without room for
+// three characters a byte it changes nothing and answers 0.
+pub fn text(bytes: &[u8], buffer: &mut [u8]) -> usize
+    ensures { λ r. ⌜ r ≡ textLength (now (bytes .entry)) (length (now (buffer .entry))) ⌝ }
+    ensures { λ _. ⌜ now (buffer .exit) ≡ textOver (now (bytes .entry)) (now (buffer .entry)) ⌝ }
+{
+    let n = bytes.len();
+    if n == 0 {
+        return 0;
+    }
+    if buffer.len() / 3 < n {
+        return 0;
+    }
+    put_text(bytes, buffer);
+    3 * n - 1
+}
+
+// The last byte is put by itself, for no space stands behind it.
+fn put_text(bytes: &[u8], buffer: &mut [u8])
+    requires { ⌜ (1 ≤ length (now bytes)) × (3 * length (now bytes) ≤ length (now buffer)) ⌝ }
+    ensures { λ _. ⌜ now (buffer .exit) ≡ over (textOf (now (bytes .entry))) (now (buffer .entry)) ⌝ }
+{
+    let last = bytes.len() - 1;
+    let mut i = 0;
+    while i < last {
+        put_digits(buffer, 3 * i, bytes[i]);
+        buffer[3 * i + 2] = SPACE;
+        i += 1;
+    }
+    put_digits(buffer, 3 * i, bytes[i]);
+}
+
+fn put_digits(buffer: &mut [u8], at: usize, b: u8)
+    requires { ⌜ at + 2 ≤ length (now buffer) ⌝ }
+    ensures { λ _. ⌜ now (buffer .exit) ≡ sets (now (buffer .entry)) at (capital (b / 16) ∷ capital (b % 16) ∷ []) ⌝ }
+{
+    buffer[at] = capital(b / 16);
+    buffer[at + 1] = capital(b % 16);
+}
+
+fn capital(d: u8) -> u8
+    requires { ⌜ d < 16 ⌝ }
+    ensures { λ r. ⌜ r ≡ capital d ⌝ }
+{
+    if d < 10 { b'0' + d } else { b'A' + (d - 10) }
+}
