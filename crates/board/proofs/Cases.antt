@@ -1,29 +1,24 @@
 -- Each outcome of the definition, by the tests that lead to it.
 use mathlib.Core.Path.{_≡_, refl, sym, ap, _∙_}
-use mathlib.Core.Bool.{Bool, true, false, cond, false≢true}
+use mathlib.Core.Bool.{Bool, true, false}
 use mathlib.Core.List.{List}
 use Prim.Native.Nat.{ℕ}
-use native.Mathlib.Omega.{arith}
 use lib.Dec.{ltb, eqb}
 use lib.ListN.{length}
 use lib.Seq.{sets}
 use borrow.Author.Tests.{eq-eqb, ne-eqb, eqb-true}
 use Rattle.refusal.specs.declared.Refusal.the-variants.{MeterOutOfLimits, BufferShort}
-use Rattle.refusal.specs.declared.ErrorCode.{ErrorCode}
-use Rattle.refusal.specs.declared.ErrorCode.the-variants.{Function, Data}
+use Rattle.refusal.specs.declared.ErrorCode.the-variants.{Function}
 use Rattle.modbus.specs.declared.Verdict.{Verdict}
-use Rattle.modbus.specs.declared.Verdict.the-variants.{Good, Wrong}
-use Rattle.modbus.specs.Frame.{addressOf, functionOf, silence, writeShaped}
+use Rattle.modbus.specs.Frame.{addressOf, functionOf, silence}
 use Rattle.modbus.specs.Replies.{errorReply}
 use Rattle.meter.specs.declared.Meter.{Meter}
 use Rattle.meter.specs.Meters.{meterOk}
 use Rattle.board.specs.declared.Reply.the-variants.{Sent}
-use Rattle.board.specs.declared.Handled.{Handled}
 use Rattle.board.specs.declared.writes.Written.{Written}
 use Rattle.board.specs.Reads.{readReply}
 use Rattle.board.specs.Writes.{writtenOf, writeReply}
-use Rattle.board.specs.Board.{Outcome, refusedOf, silentOf, sentOf, replyOf, isRead, isWrite, obeyedOf, boardOf}
-use Rattle.board.proofs.Stored.{misshaped}
+use Rattle.board.specs.Board.{Outcome, refusedOf, silentOf, replyOf, isRead, isWrite, obeyedOf, boardOf}
 
 -- the two parts that a contract speaks of
 pub parts : {x y : Outcome} → x ≡ y → (x .handled ≡ y .handled) × (x .buffer ≡ y .buffer)
@@ -50,17 +45,17 @@ module _ (m : Meter) (frame buffer : List ℕ) where
   pub write-only : isWrite frame ≡ true → isRead frame ≡ false
   write-only w = ap (λ (f : ℕ). eqb f 0x03) (eqb-true (functionOf frame) 0x10 w)
 
-  obeys-other : isRead frame ≡ false → isWrite frame ≡ false → replyOf frame (errorReply frame Function) m buffer ≡ obeyedOf m frame buffer
+  pub obeys-other : isRead frame ≡ false → isWrite frame ≡ false → replyOf frame (errorReply frame Function) m buffer ≡ obeyedOf m frame buffer
   obeys-other r w = rw (r, w) refl
 
-  obeys-read : isRead frame ≡ true → replyOf frame (readReply m frame) m buffer ≡ obeyedOf m frame buffer
+  pub obeys-read : isRead frame ≡ true → replyOf frame (readReply m frame) m buffer ≡ obeyedOf m frame buffer
   obeys-read r = rw r refl
 
-  obeys-write : isWrite frame ≡ true → replyOf frame (writeReply frame (writtenOf m frame .verdict)) (writtenOf m frame .meter) buffer ≡ obeyedOf m frame buffer
+  pub obeys-write : isWrite frame ≡ true → replyOf frame (writeReply frame (writtenOf m frame .verdict)) (writtenOf m frame .meter) buffer ≡ obeyedOf m frame buffer
   obeys-write w = rw (write-only w, w) refl
 
   -- for all meters, and for this one
-  to-all : (bytes : List ℕ) (n : Meter) → addressOf frame ≡ 0 → silentOf n buffer ≡ replyOf frame bytes n buffer
+  pub to-all : (bytes : List ℕ) (n : Meter) → addressOf frame ≡ 0 → silentOf n buffer ≡ replyOf frame bytes n buffer
   to-all bytes n z = rw (eq-eqb (addressOf frame) 0 z) refl
 
   to-one : (bytes : List ℕ) (n : Meter) → (addressOf frame ≡ 0 → ⊥) → (k : ℕ) (after : List ℕ) → k ≡ length bytes → after ≡ sets buffer 0 bytes → record { handled = record { reply = Sent k; meter = n }; buffer = after } ≡ replyOf frame bytes n buffer
@@ -89,15 +84,3 @@ module _ (m : Meter) (frame buffer : List ℕ) where
         let l' = l ∙ ap (λ (x : Verdict). length (writeReply frame x)) p in
         let s' = s ∙ ap (λ (x : Verdict). sets buffer 0 (writeReply frame x)) p in
         rw e (to-one (writeReply frame (writtenOf m frame .verdict)) (writtenOf m frame .meter) z k after l' s' ∙ obeys-write h)
-
--- a verdict is good or wrong
-good-wrong : {A : Type 0} {code : ErrorCode} → Wrong code ≡ Good → A
-good-wrong e = let z : _≡_ {A = ℕ} 0 1 = cc in let y : ⊥ = omega arith in absurd y
-
--- a write that is stored is shaped
-pub good-shaped : (m : Meter) (frame : List ℕ) → writtenOf m frame .verdict ≡ Good → writeShaped frame ≡ true
-good-shaped m frame g = by (writeShaped frame) refl
-  where
-    by : (b : Bool) → writeShaped frame ≡ b → writeShaped frame ≡ true
-    by true h = h
-    by false h = good-wrong (ap (λ (x : Written). x .verdict) (misshaped m frame h) ∙ g)

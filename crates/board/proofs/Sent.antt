@@ -1,9 +1,9 @@
 -- The words of a run's items, item by item: what is left to send after one is the run from the next.
 use mathlib.Core.Path.{_≡_, refl, sym, ap, _∙_}
-use mathlib.Core.List.{List, [], _∷_, _++_}
-use Prim.Native.Nat.{ℕ, zero, suc, _+_, _-_, _*_, _≤_, _<_}
+use mathlib.Core.List.{List, [], _∷_}
+use Prim.Native.Nat.{ℕ, suc, _+_, _-_, _*_, _≤_, _<_}
 use native.Mathlib.Omega.{arith}
-use lib.ListN.{length, getD, take, drop, length-append}
+use lib.ListN.{length, getD, length-append}
 use lib.Seq.{sets, drop-cons}
 use Rattle.words.specs.Words.{sent}
 use Rattle.words.proofs.Laws.{sets-append, length-sent}

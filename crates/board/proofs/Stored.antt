@@ -1,14 +1,13 @@
 -- A write, test by test.
-use mathlib.Core.Path.{_≡_, refl, sym, ap, _∙_}
-use mathlib.Core.Bool.{Bool, true, false, not, _&&_}
+use mathlib.Core.Path.{_≡_, refl, ap, _∙_}
+use mathlib.Core.Bool.{Bool, true, false}
 use mathlib.Core.List.{List}
 use Prim.Native.Nat.{ℕ}
-use lib.Dec.{eqb}
 use borrow.Author.Tests.{eq-eqb, ne-eqb, eqb-true}
 use Rattle.refusal.specs.declared.ErrorCode.the-variants.{Address, Data}
 use Rattle.setup.specs.Ranges.{groupOk}
 use Rattle.modbus.specs.declared.Verdict.the-variants.{Good}
-use Rattle.modbus.specs.Frame.{startOf, numberOf, wordsAt, valuesOf, writeShaped}
+use Rattle.modbus.specs.Frame.{startOf, numberOf, valuesOf, writeShaped}
 use Rattle.meter.specs.declared.Meter.{Meter}
 use Rattle.meter.specs.Answers.{withSetup}
 use Rattle.board.specs.Writes.{toStandard, toOutput, wrongOf, writtenOf}

@@ -12,7 +12,6 @@ use Rattle.modbus.specs.Frame.{addressOf, functionOf, silence}
 use Rattle.modbus.specs.Replies.{errorReply}
 use Rattle.meter.specs.declared.Meter.{Meter}
 use Rattle.meter.specs.Meters.{meterOk}
-use Rattle.board.specs.declared.Reply.{Reply}
 use Rattle.board.specs.declared.Reply.the-variants.{Silent, Sent, Refused}
 use Rattle.board.specs.declared.Handled.{Handled}
 use Rattle.board.specs.Reads.{readReply}

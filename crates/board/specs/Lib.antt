@@ -1,3 +1,4 @@
 pub mod Reads
 pub mod Writes
 pub mod Board
+pub mod Answers

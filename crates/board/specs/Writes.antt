@@ -1,10 +1,12 @@
 -- Paper 01, "What the meter does with a frame", step 5: how a write is judged, its reply, and what it stores.
+use mathlib.Core.Path.{_≡_}
 use Prim.Native.Nat.{ℕ}
-use mathlib.Core.Bool.{Bool, _&&_, not, cond}
+use mathlib.Core.Logic.{_↔_, _⊎_}
+use mathlib.Core.Bool.{Bool, true, false, _&&_, _||_, not, cond}
 use mathlib.Core.List.{List}
 use lib.Dec.{eqb}
 use Rattle.refusal.specs.declared.ErrorCode.{ErrorCode}
-use Rattle.refusal.specs.declared.ErrorCode.the-variants.{Address, Data}
+use Rattle.refusal.specs.declared.ErrorCode.the-variants.{Function, Address, Data}
 use Rattle.setup.specs.Ranges.{groupOk}
 use Rattle.modbus.specs.declared.Verdict.{Verdict}
 use Rattle.modbus.specs.declared.Verdict.the-variants.{Good, Wrong}
@@ -52,3 +54,19 @@ writtenOf m frame =
 abbrev pub writeReply : List ℕ → Verdict → List ℕ
 writeReply frame (Wrong code) = errorReply frame code
 writeReply frame Good = echoReply frame
+
+-- the write goes to a group; its words are that group's, and each value is in range
+abbrev pub toGroup : List ℕ → Bool
+toGroup frame = toStandard frame || toOutput frame
+
+abbrev pub fits : List ℕ → Bool
+fits frame = eqb (numberOf frame) (groupWords frame) && groupOk (startOf frame) (valuesOf frame)
+
+-- STATEMENT: of a write, error 02 and error 03 are due exactly when, and it is stored exactly when neither is; error 01 never is
+pub record WriteWhen : Type 0 where
+  pub error-02 : (m : Meter) (frame : List ℕ) → (writtenOf m frame .verdict ≡ Wrong Address) ↔ ((writeShaped frame ≡ true) × (toGroup frame ≡ false))
+  pub error-03 : (m : Meter) (frame : List ℕ) → (writtenOf m frame .verdict ≡ Wrong Data) ↔ ((writeShaped frame ≡ false) ⊎ ((toGroup frame ≡ true) × (fits frame ≡ false)))
+  pub legal : (m : Meter) (frame : List ℕ) → (writtenOf m frame .verdict ≡ Good) ↔ ((writeShaped frame ≡ true) × (toGroup frame ≡ true) × (fits frame ≡ true))
+  pub never : (m : Meter) (frame : List ℕ) → writtenOf m frame .verdict ≡ Wrong Function → ⊥
+  pub kept : (m : Meter) (frame : List ℕ) (code : ErrorCode) → writtenOf m frame .verdict ≡ Wrong code → writtenOf m frame .meter ≡ m
+  pub stored : (m : Meter) (frame : List ℕ) → writtenOf m frame .verdict ≡ Good → writtenOf m frame .meter ≡ storedOf m frame

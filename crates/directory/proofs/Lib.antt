@@ -5,3 +5,4 @@ pub mod Finds
 pub mod Runs
 pub mod Sends
 pub mod Rules
+pub mod Errors

@@ -198,7 +198,7 @@ module _ (m : Meter) (standard output : List ℕ) (s : Sample) where
   abbrev other : Meter
   other = withSetup m standard output
 
-  other-within : meterOk m ≡ true → setupWithin other ≡ true → meterOk other ≡ true
+  pub other-within : meterOk m ≡ true → setupWithin other ≡ true → meterOk other ≡ true
   unfolding meterOk
   other-within hm hs =
       let k = meter-parts m hm in

@@ -1,3 +1,4 @@
 pub mod Stores
 pub mod Rows
 pub mod Frames
+pub mod Judged

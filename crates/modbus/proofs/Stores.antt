@@ -1,13 +1,13 @@
 -- Bytes that are stored from the start of a buffer on: one by one, all of them, and with their CRC behind them.
 use mathlib.Core.Path.{_≡_, refl, sym, ap, _∙_}
-use mathlib.Core.Bool.{Bool, true}
-use mathlib.Core.List.{List, [], _∷_, _++_, append-nil}
-use Prim.Native.Nat.{ℕ, suc, _+_, _*_, _≤_, _<_}
+use mathlib.Core.Bool.{Bool}
+use mathlib.Core.List.{List, _++_, append-nil}
+use Prim.Native.Nat.{ℕ, _+_, _≤_, _<_}
 use native.Mathlib.Numerals.{add-one}
 use native.Mathlib.Nat.{zero-add}
 use native.Mathlib.Omega.{arith}
 use lib.ListN.{length, getD, set, take, drop, drop-of-length-le, length-append}
-use lib.Seq.{sets, sets-eq, length-sets, take-at, drop-at, drop-cons}
+use lib.Seq.{sets, sets-eq, length-sets, take-at, drop-cons}
 use borrow.Author.Tests.{le-leb}
 use Rattle.words.proofs.Laws.{sets-append}
 use Rattle.crc.specs.Crc.{crcOf, onLine, sealed, Put}

@@ -1,14 +1,16 @@
 -- Paper 01, "What the meter does with a frame", step 4: how a read is judged over a directory. The meter answers by it, and
 -- the collector knows by it which requests are answered with data.
+use mathlib.Core.Path.{_≡_}
+use mathlib.Core.Logic.{_↔_, _⊎_}
 use Prim.Native.Nat.{ℕ}
-use mathlib.Core.Bool.{Bool, _||_, not, cond}
+use mathlib.Core.Bool.{Bool, true, false, _||_, not, cond}
 use mathlib.Core.List.{List}
 use lib.Dec.{ltb, eqb}
 use lib.ListN.{length}
-use Rattle.refusal.specs.declared.ErrorCode.the-variants.{Data}
+use Rattle.refusal.specs.declared.ErrorCode.the-variants.{Function, Address, Data}
 use Rattle.directory.specs.declared.Item.{Item}
 use Rattle.directory.specs.declared.Span.{Span}
-use Rattle.directory.specs.declared.Span.the-variants.{Error}
+use Rattle.directory.specs.declared.Span.the-variants.{Items, Error}
 use Rattle.directory.specs.Run.{runIn}
 use Rattle.modbus.specs.Frame.{startOf, numberOf}
 
@@ -22,3 +24,10 @@ readIn dir frame =
     cond (not (eqb (length frame) 8)) (Error Data)
     (cond (numberWrong (numberOf frame)) (Error Data)
     (runIn dir (startOf frame) (numberOf frame)))
+
+-- STATEMENT: of a read, error 02 and error 03 are due exactly when, and it is answered with data exactly when neither is; error 01 never is
+pub record ReadWhen : Type 0 where
+  pub error-02 : (dir : List Item) (frame : List ℕ) → (readIn dir frame ≡ Error Address) ↔ ((length frame ≡ 8) × (numberWrong (numberOf frame) ≡ false) × (runIn dir (startOf frame) (numberOf frame) ≡ Error Address))
+  pub error-03 : (dir : List Item) (frame : List ℕ) → (readIn dir frame ≡ Error Data) ↔ ((length frame ≡ 8 → ⊥) ⊎ (numberWrong (numberOf frame) ≡ true) ⊎ (runIn dir (startOf frame) (numberOf frame) ≡ Error Data))
+  pub items : (dir : List Item) (frame : List ℕ) (first count : ℕ) → (readIn dir frame ≡ Items first count) ↔ ((length frame ≡ 8) × (numberWrong (numberOf frame) ≡ false) × (runIn dir (startOf frame) (numberOf frame) ≡ Items first count))
+  pub never : (dir : List Item) (frame : List ℕ) → readIn dir frame ≡ Error Function → ⊥

@@ -5,7 +5,8 @@ use borrow.Author.Needs.{needs}
 use Rattle.modbus.specs.declared.Verdict.the-variants.{Good, Wrong}
 use Rattle.modbus.proofs.Frames.{heeded, shaped-length}
 use Rattle.board.specs.Writes.{writtenOf}
-use Rattle.board.proofs.Cases.{parts, write-silent, write-sent, good-shaped}
+use Rattle.board.proofs.Cases.{parts, write-silent, write-sent}
+use Rattle.board.proofs.Verdicts.{write-when}
 use Rattle.board.proofs.write.Statement.{statement}
 use Rattle.board.proofs.write.Tie as tie
 
@@ -30,7 +31,7 @@ put-echo-requires : tie.Need-put-echo-requires
 put-echo-requires c κs =
     let s = c .before .before .before .before .before .before .before .before .before in
     let good : writtenOf (s .args .meter) (s .args .frame .now) .verdict ≡ Good = cc in
-    (omega (arith, shaped-length 0 (s .args .frame .now) (good-shaped (s .args .meter) (s .args .frame .now) good) .0), s .pre .1 .1)
+    (omega (arith, shaped-length 0 (s .args .frame .now) (write-when .legal (s .args .meter) (s .args .frame .now) .0 good .0) .0), s .pre .1 .1)
 
 enum-known-verdict : tie.Need-enum-known-verdict
 enum-known-verdict c = search needs

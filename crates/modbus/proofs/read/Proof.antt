@@ -1,6 +1,5 @@
 -- 
-use mathlib.Core.Path.{_≡_, refl, sym, _∙_}
-use native.Mathlib.Omega.{arith}
+use mathlib.Core.Path.{_∙_}
 use borrow.Author.Tests.{eq-eqb, ne-eqb}
 use Rattle.directory.specs.Table.{directory}
 use Rattle.modbus.proofs.Frames.{read-length, read-number, read-run}

@@ -1,5 +1,4 @@
 -- 
-use mathlib.Core.Path.{_≡_, refl, sym, _∙_}
 use native.Mathlib.Omega.{arith}
 use borrow.Author.Tests.{le-leb, lt-leb}
 use Rattle.modbus.proofs.Frames.{by-length, by-address, by-function, by-crc, long-enough}

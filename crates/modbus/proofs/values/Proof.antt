@@ -8,7 +8,6 @@ use lib.Seq.{sets}
 use Rattle.modbus.specs.Frame.{wordsAt}
 use Rattle.modbus.proofs.Stores.{sets-whole}
 use Rattle.modbus.proofs.Rows.{length-words, sets-words, words-none}
-use borrow.Author.Needs.{needs}
 use Rattle.modbus.proofs.values.Statement.{statement}
 use Rattle.modbus.proofs.values.Tie as tie
 

@@ -1,5 +1,4 @@
 -- 
-use mathlib.Core.Path.{_≡_, refl, sym, _∙_}
 use native.Mathlib.Omega.{arith}
 use Rattle.modbus.proofs.Frames.{shape-short, shape-long}
 use borrow.Author.Needs.{needs}

@@ -1,5 +1,5 @@
 -- A read with data has eight bytes and asks for 120 words at the most; its items send just those, so the reply has room.
-use mathlib.Core.Path.{_≡_, refl, sym, ap, _∙_}
+use mathlib.Core.Path.{_≡_, ap, _∙_}
 use mathlib.Core.List.{List, _∷_}
 use Prim.Native.Nat.{ℕ, _+_, _*_, _≤_}
 use native.Mathlib.Omega.{arith}
@@ -11,7 +11,7 @@ use Rattle.directory.specs.Table.{directory}
 use Rattle.directory.specs.Run.{runItems, wordsOf}
 use Rattle.directory.proofs.Rules.{directory-ruled}
 use Rattle.directory.proofs.Sends.{run-sends}
-use Rattle.modbus.specs.Frame.{addressOf, functionOf, startOf, numberOf}
+use Rattle.modbus.specs.Frame.{addressOf, functionOf, numberOf}
 use Rattle.modbus.proofs.Frames.{Asks, asks}
 use Rattle.modbus.proofs.Stores.{seals, length-sealed}
 use Rattle.board.specs.Reads.{itemsSent, readBytes}

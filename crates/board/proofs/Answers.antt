@@ -1,0 +1,289 @@
+-- All that is stated of the board, by its five outcomes and by what a heeded frame gives.
+use mathlib.Core.Path.{_≡_, refl, sym, ap, _∙_}
+use mathlib.Core.Logic.{_↔_, _⊎_, inl, inr}
+use mathlib.Core.Bool.{Bool, true, false, _&&_, _||_, false≢true, and-eq-true-iff}
+use mathlib.Core.List.{List, []}
+use Prim.Native.Nat.{ℕ, _+_, _≤_, _<_}
+use native.Mathlib.Omega.{arith}
+use lib.Dec.{eqb}
+use lib.ListN.{length, take, drop}
+use lib.Seq.{sets}
+use borrow.Author.Tests.{eqb-true, lt-ltb, le-ltb}
+use Rattle.refusal.specs.declared.Refusal.{Refusal}
+use Rattle.refusal.specs.declared.Refusal.the-variants.{MeterOutOfLimits, BufferShort}
+use Rattle.refusal.specs.declared.ErrorCode.{ErrorCode}
+use Rattle.refusal.specs.declared.ErrorCode.the-variants.{Function, Address, Data}
+use Rattle.refusal.specs.Numbers.{refusalNumber, errorNumber}
+use Rattle.crc.specs.Crc.{intact}
+use Rattle.setup.specs.Ranges.{groupOk}
+use Rattle.directory.specs.Table.{directory}
+use Rattle.modbus.specs.Frame.{addressOf, startOf, numberOf, valuesOf, silence}
+use Rattle.modbus.specs.Replies.{errorReply}
+use Rattle.modbus.proofs.Judged.{read-when}
+use Rattle.meter.specs.declared.Meter.{Meter}
+use Rattle.meter.specs.Meters.{meterOk}
+use Rattle.meter.specs.Answers.{withSetup}
+use Rattle.meter.proofs.Answers.{other-within}
+use Rattle.meter.proofs.Parts.{meter-parts}
+use Rattle.board.specs.declared.Reply.{Reply}
+use Rattle.board.specs.declared.Reply.the-variants.{Silent, Sent, Refused}
+use Rattle.board.specs.Writes.{toStandard, toOutput, groupWords, storedOf, toGroup, fits}
+use Rattle.board.specs.Board.{Outcome, isRead, isWrite, boardOf}
+use Rattle.board.specs.Answers.{Heeds, Answers, Errs, ReadErrs, WriteErrs, Stores, ExactlyWhen, Obeys, Untouched, FrameWithin, RepliesSealed, BufferUnseen, Determined}
+use Rattle.board.proofs.Cases.{board-1, board-2, board-silent}
+use Rattle.board.proofs.Verdicts.{write-when}
+use Rattle.board.proofs.Views.{Gives, other, misread, shows, miswritten, stores, View, out, short, unheard, for-all, for-one, view}
+use Rattle.board.proofs.Replies.{gives-sent, gives-quiet, gives-long, gives-whole, sent-front, sent-beyond, sent-length, sent-same, Faults, unknown, bad-read, bad-write, faults}
+
+-- ---- answers are told apart by a number
+
+abbrev kind : Reply → ℕ
+kind Silent = 0
+kind (Sent n) = 1
+kind (Refused reason) = 2 + refusalNumber reason
+
+abbrev said : Outcome → Reply
+said o = o .handled .reply
+
+-- an outcome that is known has its answer
+abbrev heard-as : {x y : Outcome} {r : Reply} → x ≡ y → said x ≡ r → said y ≡ r
+heard-as e h = sym (ap said e) ∙ h
+
+apart {ℓ} : {A : Type ℓ} {x y : Reply} → (kind x ≡ kind y → ⊥) → x ≡ y → A
+apart n e = absurd (n (ap kind e))
+
+-- ---- refusals and silence
+
+module _ (m : Meter) (frame b : List ℕ) where
+  one-to : View m frame b → said (boardOf m frame b) ≡ Refused MeterOutOfLimits → meterOk m ≡ false
+  one-to (out h e) r = h
+  one-to (short h k e) r = apart (λ z. omega arith) (heard-as e r)
+  one-to (unheard h k q e) r = apart (λ z. omega arith) (heard-as e r)
+  one-to (for-all bytes n h z g e) r = apart (λ z. omega arith) (heard-as e r)
+  one-to (for-one bytes n a g e) r = apart (λ z. omega arith) (heard-as e r)
+
+  two-to : View m frame b → said (boardOf m frame b) ≡ Refused BufferShort → (meterOk m ≡ true) × (length b < 256)
+  two-to (out h e) r = apart (λ z. omega arith) (heard-as e r)
+  two-to (short h k e) r = (h, k)
+  two-to (unheard h k q e) r = apart (λ z. omega arith) (heard-as e r)
+  two-to (for-all bytes n h z g e) r = apart (λ z. omega arith) (heard-as e r)
+  two-to (for-one bytes n a g e) r = apart (λ z. omega arith) (heard-as e r)
+
+  abbrev Quiet : Type 0
+  Quiet = (silence (m .address) frame ≡ true) ⊎ (addressOf frame ≡ 0)
+
+  silent-to : View m frame b → said (boardOf m frame b) ≡ Silent → (meterOk m ≡ true) × (256 ≤ length b) × Quiet
+  silent-to (out h e) r = apart (λ z. omega arith) (heard-as e r)
+  silent-to (short h k e) r = apart (λ z. omega arith) (heard-as e r)
+  silent-to (unheard h k q e) r = (h, k, inl q)
+  silent-to (for-all bytes n h z g e) r = (h .within, h .room, inr z)
+  silent-to (for-one bytes n a g e) r = apart (λ z. omega arith) (heard-as e r)
+
+  silent-from : View m frame b → meterOk m ≡ true → 256 ≤ length b → Quiet → said (boardOf m frame b) ≡ Silent
+  silent-from (out h e) k l q = absurd (false≢true (sym h ∙ k))
+  silent-from (short h s e) k l q = absurd (omega arith)
+  silent-from (unheard h s p e) k l q = ap said e
+  silent-from (for-all bytes n h z g e) k l q = ap said e
+  silent-from (for-one bytes n a g e) k l (inl q) = absurd (false≢true (sym (a .heeds .heard) ∙ q))
+  silent-from (for-one bytes n a g e) k l (inr z) = absurd (a .own z)
+
+-- ---- error codes
+
+five : (frame : List ℕ) (code : ErrorCode) → length (errorReply frame code) ≡ 5
+five frame code = refl
+
+module _ (m : Meter) (frame b : List ℕ) (code : ErrorCode) where
+  errs-to : View m frame b → Errs code m frame b → Answers m frame b × Faults code m frame
+  errs-to (out h e) r = apart (λ z. omega arith) (ap said (sym e ∙ r))
+  errs-to (short h k e) r = apart (λ z. omega arith) (ap said (sym e ∙ r))
+  errs-to (unheard h k q e) r = apart (λ z. omega arith) (ap said (sym e ∙ r))
+  errs-to (for-all bytes n h z g e) r = apart (λ z. omega arith) (ap said (sym e ∙ r))
+  errs-to (for-one bytes n a g e) r =
+      let room = a .heeds .room in
+      (a, faults m frame bytes n code g (sent-same bytes (errorReply frame code) n m b (omega (arith, gives-long m frame bytes n g)) (omega (arith, five frame code)) (sym e ∙ r)))
+
+  errs-from : Answers m frame b → ReadErrs code frame ⊎ WriteErrs code m frame → Errs code m frame b
+  errs-from a (inl r) = gives-sent m frame b a (errorReply frame code) m (misread code (r .0) (r .1) refl refl)
+  errs-from a (inr w) = gives-sent m frame b a (errorReply frame code) m (miswritten code (w .0) (w .1) refl refl)
+
+  -- a code that is not 01 is due to a read or a write
+  named : (Function ≡ code → ⊥) → Faults code m frame → ReadErrs code frame ⊎ WriteErrs code m frame
+  named n (unknown r w e) = absurd (n e)
+  named n (bad-read h) = inl h
+  named n (bad-write h) = inr h
+
+  errs-when : (Function ≡ code → ⊥) → Errs code m frame b ↔ (Answers m frame b × (ReadErrs code frame ⊎ WriteErrs code m frame))
+  errs-when n = (λ h. let t = errs-to (view m frame b) h in (t .0, named n (t .1)), λ h. errs-from (h .0) (h .1))
+
+-- 01 is due to neither
+no-function : (m : Meter) (frame : List ℕ) → Faults Function m frame → (isRead frame ≡ false) × (isWrite frame ≡ false)
+no-function m frame (unknown r w e) = (r, w)
+no-function m frame (bad-read h) = absurd (read-when .never directory frame (h .1))
+no-function m frame (bad-write h) = absurd (write-when .never m frame (h .1))
+
+pub exactly-when : ExactlyWhen
+exactly-when =
+    record {
+      one = λ m frame b. (one-to m frame b (view m frame b), λ h. ap said (sym (board-1 m frame b h)));
+      two = λ m frame b. (two-to m frame b (view m frame b), λ h. ap said (sym (board-2 m frame b (h .0) (lt-ltb _ _ (h .1)))));
+      silent = λ m frame b. (silent-to m frame b (view m frame b), λ h. silent-from m frame b (view m frame b) (h .0) (h .1) (h .2));
+      error-01 = λ m frame b. (
+        λ h. let t = errs-to m frame b Function (view m frame b) h in let f = no-function m frame (t .1) in (t .0, f .0, f .1),
+        λ h. gives-sent m frame b (h .0) (errorReply frame Function) m (other (h .1) (h .2) refl refl),
+      );
+      error-02 = λ m frame b. errs-when m frame b Address (λ e. let z : 1 ≡ 2 = ap errorNumber e in omega arith);
+      error-03 = λ m frame b. errs-when m frame b Data (λ e. let z : 1 ≡ 3 = ap errorNumber e in omega arith);
+    }
+
+pub obeys : Obeys
+obeys =
+    record {
+      reads = λ m frame b first count a r s. gives-sent m frame b a _ m (shows first count r s refl refl);
+      writes = λ m frame b a w. gives-sent m frame b a _ _ (stores (w .0) (w .1) refl refl);
+      for-all = λ m frame b h z w. gives-quiet m frame b h z _ _ (stores (w .0) (w .1) refl refl);
+    }
+
+-- ---- what stays as it was
+
+module _ (m : Meter) (frame b : List ℕ) where
+  refused : View m frame b → (reason : Refusal) → said (boardOf m frame b) ≡ Refused reason → (boardOf m frame b .handled .meter ≡ m) × (boardOf m frame b .buffer ≡ b)
+  refused (out h e) reason r = (ap (λ (o : Outcome). o .handled .meter) e, ap (λ (o : Outcome). o .buffer) e)
+  refused (short h k e) reason r = (ap (λ (o : Outcome). o .handled .meter) e, ap (λ (o : Outcome). o .buffer) e)
+  refused (unheard h k q e) reason r = apart (λ z. omega arith) (heard-as e r)
+  refused (for-all bytes n h z g e) reason r = apart (λ z. omega arith) (heard-as e r)
+  refused (for-one bytes n a g e) reason r = apart (λ z. omega arith) (heard-as e r)
+
+  silent : View m frame b → said (boardOf m frame b) ≡ Silent → boardOf m frame b .buffer ≡ b
+  silent (out h e) r = apart (λ z. omega arith) (heard-as e r)
+  silent (short h k e) r = apart (λ z. omega arith) (heard-as e r)
+  silent (unheard h k q e) r = ap (λ (o : Outcome). o .buffer) e
+  silent (for-all bytes n h z g e) r = ap (λ (o : Outcome). o .buffer) e
+  silent (for-one bytes n a g e) r = apart (λ z. omega arith) (heard-as e r)
+
+  -- a reply that was sent: who it is for, what it is, and the buffer then
+  record Reply-sent (k : ℕ) : Type 0 where
+    bytes : List ℕ
+    next : Meter
+    answers : Answers m frame b
+    gives : Gives m frame bytes next
+    long : length bytes ≡ k
+    after : boardOf m frame b .buffer ≡ sets b 0 bytes
+
+  sent : View m frame b → (k : ℕ) → said (boardOf m frame b) ≡ Sent k → Reply-sent k
+  sent (out h e) k r = apart (λ z. omega arith) (heard-as e r)
+  sent (short h l e) k r = apart (λ z. omega arith) (heard-as e r)
+  sent (unheard h l q e) k r = apart (λ z. omega arith) (heard-as e r)
+  sent (for-all bytes n h z g e) k r = apart (λ z. omega arith) (heard-as e r)
+  sent (for-one bytes n a g e) k r =
+      record { bytes = bytes; next = n; answers = a; gives = g; long = sent-length (heard-as e r); after = ap (λ (o : Outcome). o .buffer) e }
+
+  module _ (k : ℕ) (s : Reply-sent k) where
+    within-buffer : length (s .bytes) ≤ length b
+    within-buffer = let room = s .answers .heeds .room in omega (arith, gives-long m frame (s .bytes) (s .next) (s .gives))
+
+    front : take k (boardOf m frame b .buffer) ≡ s .bytes
+    front = rw (s .after, ← s .long) (sent-front (s .bytes) b within-buffer)
+
+    beyond : drop k (boardOf m frame b .buffer) ≡ drop k b
+    beyond = rw (s .after, ← s .long) (sent-beyond (s .bytes) b within-buffer)
+
+  abbrev Kept : Meter → Type 0
+  Kept n = (n ≡ m) ⊎ (Stores m frame × (n ≡ storedOf m frame))
+
+  gives-kept : (bytes : List ℕ) (n : Meter) → Gives m frame bytes n → Kept n
+  gives-kept bytes n (other r w e k) = inl k
+  gives-kept bytes n (misread code r s e k) = inl k
+  gives-kept bytes n (shows first count r s e k) = inl k
+  gives-kept bytes n (miswritten code w v e k) = inl k
+  gives-kept bytes n (stores w v e k) = inr ((w, v), k)
+
+  altered : View m frame b → Kept (boardOf m frame b .handled .meter)
+  altered (out h e) = inl (ap (λ (o : Outcome). o .handled .meter) e)
+  altered (short h k e) = inl (ap (λ (o : Outcome). o .handled .meter) e)
+  altered (unheard h k q e) = inl (ap (λ (o : Outcome). o .handled .meter) e)
+  altered (for-all bytes n h z g e) = rw e (gives-kept bytes n g)
+  altered (for-one bytes n a g e) = rw e (gives-kept bytes n g)
+
+pub untouched : Untouched
+untouched =
+    record {
+      refused = λ m frame b. refused m frame b (view m frame b);
+      silent = λ m frame b. silent m frame b (view m frame b);
+      beyond = λ m frame b n h. beyond m frame b n (sent m frame b (view m frame b) n h);
+      altered = λ m frame b. altered m frame b (view m frame b);
+      for-all = λ m frame b n z h. sent m frame b (view m frame b) n h .answers .own z;
+    }
+
+pub replies-sealed : RepliesSealed
+replies-sealed =
+    record {
+      long = λ m frame b n h. let s = sent m frame b (view m frame b) n h in omega (arith, gives-long m frame (s .bytes) (s .next) (s .gives), s .long);
+      whole = λ m frame b n h. let s = sent m frame b (view m frame b) n h in ap intact (front m frame b n s) ∙ gives-whole m frame (s .bytes) (s .next) (s .gives);
+    }
+
+-- ---- within limits
+
+module _ (m : Meter) (frame : List ℕ) (hm : meterOk m ≡ true) (f : fits frame ≡ true) where
+  in-range : groupOk (startOf frame) (valuesOf frame) ≡ true
+  in-range = and-eq-true-iff (eqb (numberOf frame) (groupWords frame)) _ .0 f .1
+
+  -- in the range of the group that it goes to
+  ranged : (address : ℕ) → eqb (startOf frame) address ≡ true → groupOk address (valuesOf frame) ≡ true
+  ranged address s = ap (λ (a : ℕ). groupOk a (valuesOf frame)) (sym (eqb-true _ _ s)) ∙ in-range
+
+  groups : (groupOk 0x2000 (m .standard) ≡ true) × (groupOk 0x2200 (m .output) ≡ true)
+  groups = and-eq-true-iff (groupOk 0x2000 (m .standard)) _ .0 (meter-parts m hm .setup)
+
+  stored-within : toGroup frame ≡ true → (s : Bool) → toStandard frame ≡ s → meterOk (storedOf m frame) ≡ true
+  stored-within t true s =
+      let e : storedOf m frame ≡ withSetup m (valuesOf frame) (m .output) = rw s refl in
+      ap meterOk e ∙ other-within m (valuesOf frame) (m .output) (m .latest) hm (λ i. ranged 0x2000 s i && groups .1 i)
+  stored-within t false s =
+      let e : storedOf m frame ≡ withSetup m (m .standard) (valuesOf frame) = rw s refl in
+      let o : toOutput frame ≡ true = sym (ap (λ (x : Bool). x || toOutput frame) s) ∙ t in
+      ap meterOk e ∙ other-within m (m .standard) (valuesOf frame) (m .latest) hm (λ i. groups .0 i && ranged 0x2200 o i)
+
+kept-within : (m : Meter) (frame : List ℕ) (n : Meter) → meterOk m ≡ true → Kept m frame [] n → meterOk n ≡ true
+kept-within m frame n h (inl e) = ap meterOk e ∙ h
+kept-within m frame n h (inr s) =
+    let l = write-when .legal m frame .0 (s .0 .1) in
+    ap meterOk (s .1) ∙ stored-within m frame h (l .2) (l .1) (toStandard frame) refl
+
+pub frame-within : FrameWithin
+frame-within = record { frame = λ m frame b h. kept-within m frame _ h (untouched .altered m frame b) }
+
+-- ---- the buffer is not seen
+
+module _ (m : Meter) (frame a b : List ℕ) (ra : 256 ≤ length a) (rb : 256 ≤ length b) where
+  moved : Heeds m frame a → Heeds m frame b
+  moved h = record { within = h .within; room = rb; heard = h .heard }
+
+  own-moved : Answers m frame a → Answers m frame b
+  own-moved h = record { heeds = moved (h .heeds); own = h .own }
+
+  abbrev handled : {x y : Outcome} → x ≡ y → x .handled ≡ y .handled
+  handled e = ap (λ (o : Outcome). o .handled) e
+
+  same : View m frame a → boardOf m frame a .handled ≡ boardOf m frame b .handled
+  same (out h e) = handled e ∙ handled (board-1 m frame b h)
+  same (short h k e) = absurd (omega arith)
+  same (unheard h k q e) = handled e ∙ handled (board-silent m frame b h (le-ltb _ _ rb) q)
+  same (for-all bytes n h z g e) = handled e ∙ sym (handled (gives-quiet m frame b (moved h) z bytes n g))
+  same (for-one bytes n h g e) = handled e ∙ sym (handled (gives-sent m frame b (own-moved h) bytes n g))
+
+  bytes-same : (n : ℕ) → said (boardOf m frame a) ≡ Sent n → take n (boardOf m frame a .buffer) ≡ take n (boardOf m frame b .buffer)
+  bytes-same n h =
+      let s = sent m frame a (view m frame a) n h in
+      let e = gives-sent m frame b (own-moved (s .answers)) (s .bytes) (s .next) (s .gives) in
+      let there : Reply-sent m frame b n = record { bytes = s .bytes; next = s .next; answers = own-moved (s .answers); gives = s .gives; long = s .long; after = ap (λ (o : Outcome). o .buffer) e } in
+      front m frame a n s ∙ sym (front m frame b n there)
+
+pub buffer-unseen : BufferUnseen
+buffer-unseen =
+    record {
+      same = λ m frame a b ra rb. same m frame a b ra rb (view m frame a);
+      bytes = λ m frame a b n ra rb. bytes-same m frame a b ra rb n;
+    }
+
+pub determined : Determined
+determined = record { once = λ m frame before h k x y p q. (p .answer ∙ sym (q .answer), p .bytes ∙ sym (q .bytes)) }

@@ -1,0 +1,122 @@
+-- A write is judged by five tests in their order: which verdict each of them leads to, and what becomes of the record.
+use mathlib.Core.Path.{_≡_, refl, sym, ap, _∙_}
+use mathlib.Core.Logic.{_↔_, _⊎_, inl, inr}
+use mathlib.Core.Bool.{Bool, true, false, _&&_, _||_, not, cond, false≢true}
+use mathlib.Core.List.{List}
+use Prim.Native.Nat.{ℕ}
+use native.Mathlib.Omega.{arith}
+use lib.Dec.{eqb}
+use Rattle.refusal.specs.declared.ErrorCode.{ErrorCode}
+use Rattle.refusal.specs.declared.ErrorCode.the-variants.{Function, Address, Data}
+use Rattle.setup.specs.Ranges.{groupOk}
+use Rattle.modbus.specs.declared.Verdict.the-variants.{Good, Wrong}
+use Rattle.modbus.specs.Frame.{startOf, numberOf, valuesOf, writeShaped}
+use Rattle.meter.specs.declared.Meter.{Meter}
+use Rattle.board.specs.declared.writes.Written.{Written}
+use Rattle.board.specs.Writes.{toStandard, toOutput, groupWords, storedOf, wrongOf, writtenOf, toGroup, fits, WriteWhen}
+
+-- what the tests lead to: a shaped, s and o to a group, n its words, g its values; m is the meter, k the meter with it stored
+abbrev judged : Bool → Bool → Bool → Bool → Bool → Meter → Meter → Written
+judged a s o n g m k =
+    cond (not a) (wrongOf m Data)
+    (cond (not s && not o) (wrongOf m Address)
+    (cond (not n) (wrongOf m Data)
+    (cond (not g) (wrongOf m Data)
+    (record { verdict = Good; meter = k }))))
+
+-- no two verdicts are the same
+data-address : {A : Type 0} → Wrong Data ≡ Wrong Address → A
+data-address e = let z : _≡_ {A = ℕ} 0 1 = cc in let y : ⊥ = omega arith in absurd y
+
+data-function : {A : Type 0} → Wrong Data ≡ Wrong Function → A
+data-function e = let z : _≡_ {A = ℕ} 0 1 = cc in let y : ⊥ = omega arith in absurd y
+
+address-function : {A : Type 0} → Wrong Address ≡ Wrong Function → A
+address-function e = let z : _≡_ {A = ℕ} 0 1 = cc in let y : ⊥ = omega arith in absurd y
+
+pub wrong-good : {A : Type 0} {code : ErrorCode} → Wrong code ≡ Good → A
+wrong-good e = let z : _≡_ {A = ℕ} 0 1 = cc in let y : ⊥ = omega arith in absurd y
+
+never {ℓ} : {A : Type ℓ} → false ≡ true → A
+never h = absurd (false≢true h)
+
+module _ (m k : Meter) where
+  -- of a write to a group: its words and values decide
+  last : (n g : Bool) → cond (not n) (wrongOf m Data) (cond (not g) (wrongOf m Data) (record { verdict = Good; meter = k })) ≡ cond (n && g) (record { verdict = Good; meter = k }) (wrongOf m Data)
+  last true true = refl
+  last true false = refl
+  last false g = refl
+
+  -- to a group or to none
+  either : (s o : Bool) (x y : Written) → cond (not s && not o) x y ≡ cond (s || o) y x
+  either true o x y = refl
+  either false true x y = refl
+  either false false x y = refl
+
+  -- the same by three tests: f for words and values together
+  abbrev by-three : Bool → Bool → Bool → Written
+  by-three a p f = cond a (cond p (cond f (record { verdict = Good; meter = k }) (wrongOf m Data)) (wrongOf m Address)) (wrongOf m Data)
+
+  three : (a s o n g : Bool) → judged a s o n g m k ≡ by-three a (s || o) (n && g)
+  three true s o n g = either s o (wrongOf m Address) _ ∙ ap (λ (x : Written). cond (s || o) x (wrongOf m Address)) (last n g)
+  three false s o n g = refl
+
+  address-when : (a p f : Bool) → (by-three a p f .verdict ≡ Wrong Address) ↔ ((a ≡ true) × (p ≡ false))
+  address-when true true true = (λ h. wrong-good (sym h), λ h. never (sym (h .1)))
+  address-when true true false = (λ h. data-address h, λ h. never (sym (h .1)))
+  address-when true false f = (λ h. (refl, refl), λ h. refl)
+  address-when false p f = (λ h. data-address h, λ h. never (h .0))
+
+  data-when : (a p f : Bool) → (by-three a p f .verdict ≡ Wrong Data) ↔ ((a ≡ false) ⊎ ((p ≡ true) × (f ≡ false)))
+  data-when true true true = (λ h. wrong-good (sym h), no)
+    where
+      no : ((true ≡ false) ⊎ ((true ≡ true) × (true ≡ false))) → Good ≡ Wrong Data
+      no (inl h) = never (sym h)
+      no (inr h) = never (sym (h .1))
+  data-when true true false = (λ h. inr (refl, refl), λ h. refl)
+  data-when true false f = (λ h. data-address (sym h), no)
+    where
+      no : ((true ≡ false) ⊎ ((false ≡ true) × (f ≡ false))) → Wrong Address ≡ Wrong Data
+      no (inl h) = never (sym h)
+      no (inr h) = never (h .0)
+  data-when false p f = (λ h. inl refl, λ h. refl)
+
+  good-when : (a p f : Bool) → (by-three a p f .verdict ≡ Good) ↔ ((a ≡ true) × (p ≡ true) × (f ≡ true))
+  good-when true true true = (λ h. (refl, refl, refl), λ h. refl)
+  good-when true true false = (λ h. wrong-good h, λ h. never (h .2))
+  good-when true false f = (λ h. wrong-good h, λ h. never (h .1))
+  good-when false p f = (λ h. wrong-good h, λ h. never (h .0))
+
+  not-function : (a p f : Bool) → by-three a p f .verdict ≡ Wrong Function → ⊥
+  not-function true true true h = wrong-good (sym h)
+  not-function true true false h = data-function h
+  not-function true false f h = address-function h
+  not-function false p f h = data-function h
+
+  keeps : (a p f : Bool) (code : ErrorCode) → by-three a p f .verdict ≡ Wrong code → by-three a p f .meter ≡ m
+  keeps true true true code h = wrong-good (sym h)
+  keeps true true false code h = refl
+  keeps true false f code h = refl
+  keeps false p f code h = refl
+
+  stores : (a p f : Bool) → by-three a p f .verdict ≡ Good → by-three a p f .meter ≡ k
+  stores true true true h = refl
+  stores true true false h = wrong-good h
+  stores true false f h = wrong-good h
+  stores false p f h = wrong-good h
+
+module _ (m : Meter) (frame : List ℕ) where
+  is-judged : writtenOf m frame ≡ by-three m (storedOf m frame) (writeShaped frame) (toGroup frame) (fits frame)
+  unfolding writtenOf
+  is-judged = three m (storedOf m frame) (writeShaped frame) (toStandard frame) (toOutput frame) (eqb (numberOf frame) (groupWords frame)) (groupOk (startOf frame) (valuesOf frame))
+
+pub write-when : WriteWhen
+write-when =
+    record {
+      error-02 = λ m frame. rw (is-judged m frame) (address-when m (storedOf m frame) (writeShaped frame) (toGroup frame) (fits frame));
+      error-03 = λ m frame. rw (is-judged m frame) (data-when m (storedOf m frame) (writeShaped frame) (toGroup frame) (fits frame));
+      legal = λ m frame. rw (is-judged m frame) (good-when m (storedOf m frame) (writeShaped frame) (toGroup frame) (fits frame));
+      never = λ m frame. rw (is-judged m frame) (not-function m (storedOf m frame) (writeShaped frame) (toGroup frame) (fits frame));
+      kept = λ m frame. rw (is-judged m frame) (keeps m (storedOf m frame) (writeShaped frame) (toGroup frame) (fits frame));
+      stored = λ m frame. rw (is-judged m frame) (stores m (storedOf m frame) (writeShaped frame) (toGroup frame) (fits frame));
+    }

@@ -1,0 +1,100 @@
+-- Paper 01, "What the meter does with a frame" and "How tight the contracts are": when each answer is given, what stays as it
+-- was, and that no two outcomes are allowed.
+use mathlib.Core.Path.{_≡_}
+use mathlib.Core.Logic.{_↔_, _⊎_}
+use Prim.Native.Nat.{ℕ, _≤_, _<_}
+use mathlib.Core.Bool.{true, false}
+use mathlib.Core.List.{List}
+use lib.ListN.{length, take, drop}
+use Rattle.refusal.specs.declared.Refusal.{Refusal}
+use Rattle.refusal.specs.declared.Refusal.the-variants.{MeterOutOfLimits, BufferShort}
+use Rattle.refusal.specs.declared.ErrorCode.{ErrorCode}
+use Rattle.refusal.specs.declared.ErrorCode.the-variants.{Function, Address, Data}
+use Rattle.crc.specs.Crc.{intact}
+use Rattle.directory.specs.declared.Span.the-variants.{Items, Error}
+use Rattle.directory.specs.Table.{directory}
+use Rattle.directory.specs.Run.{runItems}
+use Rattle.modbus.specs.declared.Verdict.the-variants.{Good, Wrong}
+use Rattle.modbus.specs.Frame.{addressOf, silence}
+use Rattle.modbus.specs.Read.{readIn}
+use Rattle.modbus.specs.Replies.{errorReply, echoReply, dataReply}
+use Rattle.meter.specs.declared.Meter.{Meter}
+use Rattle.meter.specs.Meters.{meterOk}
+use Rattle.board.specs.declared.Reply.the-variants.{Silent, Sent, Refused}
+use Rattle.board.specs.declared.Handled.{Handled}
+use Rattle.board.specs.Reads.{itemsSent}
+use Rattle.board.specs.Writes.{storedOf, writtenOf}
+use Rattle.board.specs.Board.{silentOf, sentOf, isRead, isWrite, boardOf}
+
+-- the meter heeds a frame: steps 1 and 2 are passed
+pub record Heeds (m : Meter) (frame buffer : List ℕ) : Type 0 where
+  pub within : meterOk m ≡ true
+  pub room : 256 ≤ length buffer
+  pub heard : silence (m .address) frame ≡ false
+
+-- and the frame is for this meter alone
+pub record Answers (m : Meter) (frame buffer : List ℕ) : Type 0 where
+  pub heeds : Heeds m frame buffer
+  pub own : addressOf frame ≡ 0 → ⊥
+
+-- it answers with an error code, its record as it was
+abbrev pub Errs : ErrorCode → Meter → List ℕ → List ℕ → Type 0
+Errs code m frame buffer = boardOf m frame buffer ≡ sentOf (errorReply frame code) m buffer
+
+-- a read, or a write, that an error code is due to
+abbrev pub ReadErrs : ErrorCode → List ℕ → Type 0
+ReadErrs code frame = (isRead frame ≡ true) × (readIn directory frame ≡ Error code)
+
+abbrev pub WriteErrs : ErrorCode → Meter → List ℕ → Type 0
+WriteErrs code m frame = (isWrite frame ≡ true) × (writtenOf m frame .verdict ≡ Wrong code)
+
+-- a write that is legal
+abbrev pub Stores : Meter → List ℕ → Type 0
+Stores m frame = (isWrite frame ≡ true) × (writtenOf m frame .verdict ≡ Good)
+
+-- STATEMENT: refusals 1 and 2, silence, and error codes 01, 02 and 03 are given exactly when their rule says
+pub record ExactlyWhen : Type 0 where
+  pub one : (m : Meter) (frame b : List ℕ) → (boardOf m frame b .handled .reply ≡ Refused MeterOutOfLimits) ↔ (meterOk m ≡ false)
+  pub two : (m : Meter) (frame b : List ℕ) → (boardOf m frame b .handled .reply ≡ Refused BufferShort) ↔ ((meterOk m ≡ true) × (length b < 256))
+  pub silent : (m : Meter) (frame b : List ℕ) → (boardOf m frame b .handled .reply ≡ Silent) ↔ ((meterOk m ≡ true) × (256 ≤ length b) × ((silence (m .address) frame ≡ true) ⊎ (addressOf frame ≡ 0)))
+  pub error-01 : (m : Meter) (frame b : List ℕ) → Errs Function m frame b ↔ (Answers m frame b × (isRead frame ≡ false) × (isWrite frame ≡ false))
+  pub error-02 : (m : Meter) (frame b : List ℕ) → Errs Address m frame b ↔ (Answers m frame b × (ReadErrs Address frame ⊎ WriteErrs Address m frame))
+  pub error-03 : (m : Meter) (frame b : List ℕ) → Errs Data m frame b ↔ (Answers m frame b × (ReadErrs Data frame ⊎ WriteErrs Data m frame))
+
+-- STATEMENT: a read that is not wrong is answered with its items' words, and a legal write is stored and echoed; address 0: stored, and silence
+pub record Obeys : Type 0 where
+  pub reads : (m : Meter) (frame b : List ℕ) (first count : ℕ) → Answers m frame b → isRead frame ≡ true → readIn directory frame ≡ Items first count → boardOf m frame b ≡ sentOf (dataReply frame (itemsSent m (runItems directory first count))) m b
+  pub writes : (m : Meter) (frame b : List ℕ) → Answers m frame b → Stores m frame → boardOf m frame b ≡ sentOf (echoReply frame) (storedOf m frame) b
+  pub for-all : (m : Meter) (frame b : List ℕ) → Heeds m frame b → addressOf frame ≡ 0 → Stores m frame → boardOf m frame b ≡ silentOf (storedOf m frame) b
+
+-- STATEMENT: a refusal changes nothing; silence leaves the buffer; bytes beyond a reply stay; only a legal write alters the
+-- record, and stores its group alone; address 0 never has a reply
+pub record Untouched : Type 0 where
+  pub refused : (m : Meter) (frame b : List ℕ) (reason : Refusal) → boardOf m frame b .handled .reply ≡ Refused reason → (boardOf m frame b .handled .meter ≡ m) × (boardOf m frame b .buffer ≡ b)
+  pub silent : (m : Meter) (frame b : List ℕ) → boardOf m frame b .handled .reply ≡ Silent → boardOf m frame b .buffer ≡ b
+  pub beyond : (m : Meter) (frame b : List ℕ) (n : ℕ) → boardOf m frame b .handled .reply ≡ Sent n → drop n (boardOf m frame b .buffer) ≡ drop n b
+  pub altered : (m : Meter) (frame b : List ℕ) → (boardOf m frame b .handled .meter ≡ m) ⊎ (Stores m frame × (boardOf m frame b .handled .meter ≡ storedOf m frame))
+  pub for-all : (m : Meter) (frame b : List ℕ) (n : ℕ) → addressOf frame ≡ 0 → boardOf m frame b .handled .reply ≡ Sent n → ⊥
+
+-- STATEMENT: frames keep a record within limits
+pub record FrameWithin : Type 0 where
+  pub frame : (m : Meter) (frame b : List ℕ) → meterOk m ≡ true → meterOk (boardOf m frame b .handled .meter) ≡ true
+
+-- STATEMENT: every reply's CRC is right, and its length at most 256
+pub record RepliesSealed : Type 0 where
+  pub long : (m : Meter) (frame b : List ℕ) (n : ℕ) → boardOf m frame b .handled .reply ≡ Sent n → n ≤ 256
+  pub whole : (m : Meter) (frame b : List ℕ) (n : ℕ) → boardOf m frame b .handled .reply ≡ Sent n → intact (take n (boardOf m frame b .buffer)) ≡ true
+
+-- STATEMENT: what stood in the buffer is never seen: with room, answer, record and reply bytes are the same for any other
+pub record BufferUnseen : Type 0 where
+  pub same : (m : Meter) (frame a b : List ℕ) → 256 ≤ length a → 256 ≤ length b → boardOf m frame a .handled ≡ boardOf m frame b .handled
+  pub bytes : (m : Meter) (frame a b : List ℕ) (n : ℕ) → 256 ≤ length a → 256 ≤ length b → boardOf m frame a .handled .reply ≡ Sent n → take n (boardOf m frame a .buffer) ≡ take n (boardOf m frame b .buffer)
+
+-- what the contract of `board::handle` allows: an answer with a record, and a buffer
+pub record Allows (m : Meter) (frame before : List ℕ) (h : Handled) (after : List ℕ) : Type 0 where
+  pub answer : h ≡ boardOf m frame before .handled
+  pub bytes : after ≡ boardOf m frame before .buffer
+
+-- STATEMENT: any two outcomes that the contract allows are equal
+pub record Determined : Type 0 where
+  pub once : (m : Meter) (frame before : List ℕ) (h k : Handled) (x y : List ℕ) → Allows m frame before h x → Allows m frame before k y → (h ≡ k) × (x ≡ y)
