@@ -1,37 +1,32 @@
 -- All that is stated of the board, by its five outcomes and by what a heeded frame gives.
 use mathlib.Core.Path.{_≡_, refl, sym, ap, _∙_}
 use mathlib.Core.Logic.{_↔_, _⊎_, inl, inr}
-use mathlib.Core.Bool.{Bool, true, false, _&&_, _||_, false≢true, and-eq-true-iff}
+use mathlib.Core.Bool.{true, false, false≢true}
 use mathlib.Core.List.{List, []}
 use Prim.Native.Nat.{ℕ, _+_, _≤_, _<_}
 use native.Mathlib.Omega.{arith}
-use lib.Dec.{eqb}
 use lib.ListN.{length, take, drop}
 use lib.Seq.{sets}
-use borrow.Author.Tests.{eqb-true, lt-ltb, le-ltb}
+use borrow.Author.Tests.{lt-ltb, le-ltb}
 use Rattle.refusal.specs.declared.Refusal.{Refusal}
 use Rattle.refusal.specs.declared.Refusal.the-variants.{MeterOutOfLimits, BufferShort}
 use Rattle.refusal.specs.declared.ErrorCode.{ErrorCode}
 use Rattle.refusal.specs.declared.ErrorCode.the-variants.{Function, Address, Data}
 use Rattle.refusal.specs.Numbers.{refusalNumber, errorNumber}
 use Rattle.crc.specs.Crc.{intact}
-use Rattle.setup.specs.Ranges.{groupOk}
 use Rattle.directory.specs.Table.{directory}
-use Rattle.modbus.specs.Frame.{addressOf, startOf, numberOf, valuesOf, silence}
+use Rattle.modbus.specs.Frame.{addressOf, silence}
 use Rattle.modbus.specs.Replies.{errorReply}
 use Rattle.modbus.proofs.Judged.{read-when}
 use Rattle.meter.specs.declared.Meter.{Meter}
 use Rattle.meter.specs.Meters.{meterOk}
-use Rattle.meter.specs.Answers.{withSetup}
-use Rattle.meter.proofs.Answers.{other-within}
-use Rattle.meter.proofs.Parts.{meter-parts}
 use Rattle.board.specs.declared.Reply.{Reply}
 use Rattle.board.specs.declared.Reply.the-variants.{Silent, Sent, Refused}
-use Rattle.board.specs.Writes.{toStandard, toOutput, groupWords, storedOf, toGroup, fits}
+use Rattle.store.specs.Writes.{storedOf}
 use Rattle.board.specs.Board.{Outcome, isRead, isWrite, boardOf}
 use Rattle.board.specs.Answers.{Heeds, Answers, Errs, ReadErrs, WriteErrs, Stores, ExactlyWhen, Obeys, Untouched, FrameWithin, RepliesSealed, BufferUnseen, Determined}
 use Rattle.board.proofs.Cases.{board-1, board-2, board-silent}
-use Rattle.board.proofs.Verdicts.{write-when}
+use Rattle.store.proofs.Verdicts.{write-when, write-within}
 use Rattle.board.proofs.Views.{Gives, other, misread, shows, miswritten, stores, View, out, short, unheard, for-all, for-one, view}
 use Rattle.board.proofs.Replies.{gives-sent, gives-quiet, gives-long, gives-whole, sent-front, sent-beyond, sent-length, sent-same, Faults, unknown, bad-read, bad-write, faults}
 
@@ -223,31 +218,9 @@ replies-sealed =
 
 -- ---- within limits
 
-module _ (m : Meter) (frame : List ℕ) (hm : meterOk m ≡ true) (f : fits frame ≡ true) where
-  in-range : groupOk (startOf frame) (valuesOf frame) ≡ true
-  in-range = and-eq-true-iff (eqb (numberOf frame) (groupWords frame)) _ .0 f .1
-
-  -- in the range of the group that it goes to
-  ranged : (address : ℕ) → eqb (startOf frame) address ≡ true → groupOk address (valuesOf frame) ≡ true
-  ranged address s = ap (λ (a : ℕ). groupOk a (valuesOf frame)) (sym (eqb-true _ _ s)) ∙ in-range
-
-  groups : (groupOk 0x2000 (m .standard) ≡ true) × (groupOk 0x2200 (m .output) ≡ true)
-  groups = and-eq-true-iff (groupOk 0x2000 (m .standard)) _ .0 (meter-parts m hm .setup)
-
-  stored-within : toGroup frame ≡ true → (s : Bool) → toStandard frame ≡ s → meterOk (storedOf m frame) ≡ true
-  stored-within t true s =
-      let e : storedOf m frame ≡ withSetup m (valuesOf frame) (m .output) = rw s refl in
-      ap meterOk e ∙ other-within m (valuesOf frame) (m .output) (m .latest) hm (λ i. ranged 0x2000 s i && groups .1 i)
-  stored-within t false s =
-      let e : storedOf m frame ≡ withSetup m (m .standard) (valuesOf frame) = rw s refl in
-      let o : toOutput frame ≡ true = sym (ap (λ (x : Bool). x || toOutput frame) s) ∙ t in
-      ap meterOk e ∙ other-within m (m .standard) (valuesOf frame) (m .latest) hm (λ i. groups .0 i && ranged 0x2200 o i)
-
 kept-within : (m : Meter) (frame : List ℕ) (n : Meter) → meterOk m ≡ true → Kept m frame [] n → meterOk n ≡ true
 kept-within m frame n h (inl e) = ap meterOk e ∙ h
-kept-within m frame n h (inr s) =
-    let l = write-when .legal m frame .0 (s .0 .1) in
-    ap meterOk (s .1) ∙ stored-within m frame h (l .2) (l .1) (toStandard frame) refl
+kept-within m frame n h (inr s) = ap meterOk (s .1 ∙ sym (write-when .stored m frame (s .0 .1))) ∙ write-within .write m frame h
 
 pub frame-within : FrameWithin
 frame-within = record { frame = λ m frame b h. kept-within m frame _ h (untouched .altered m frame b) }

@@ -15,9 +15,9 @@ use Rattle.modbus.specs.Replies.{errorReply}
 use Rattle.meter.specs.declared.Meter.{Meter}
 use Rattle.meter.specs.Meters.{meterOk}
 use Rattle.board.specs.declared.Reply.the-variants.{Sent}
-use Rattle.board.specs.declared.writes.Written.{Written}
+use Rattle.store.specs.declared.Written.{Written}
 use Rattle.board.specs.Reads.{readReply}
-use Rattle.board.specs.Writes.{writtenOf, writeReply}
+use Rattle.store.specs.Writes.{writtenOf, writeReply}
 use Rattle.board.specs.Board.{Outcome, refusedOf, silentOf, replyOf, isRead, isWrite, obeyedOf, boardOf}
 
 -- the two parts that a contract speaks of

@@ -32,7 +32,7 @@ use Rattle.board.specs.Board.{Outcome, silentOf, sentOf, replyOf, isRead
 use Rattle.board.specs.Answers.{Heeds, Answers, ReadErrs, WriteErrs}
 use Rattle.board.proofs.Sent.{length-items}
 use Rattle.board.proofs.Cases.{board-obeys, obeys-other, obeys-read, obeys-write}
-use Rattle.board.proofs.Verdicts.{write-when}
+use Rattle.store.proofs.Verdicts.{write-when}
 use Rattle.board.proofs.Views.{Gives, other, misread, shows, miswritten, stores}
 
 -- ---- what is given is sent

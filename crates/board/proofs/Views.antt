@@ -21,11 +21,11 @@ use Rattle.modbus.specs.Replies.{errorReply, echoReply, dataReply}
 use Rattle.meter.specs.declared.Meter.{Meter}
 use Rattle.meter.specs.Meters.{meterOk}
 use Rattle.board.specs.Reads.{itemsSent, readBytes, readReply}
-use Rattle.board.specs.Writes.{storedOf, writtenOf, writeReply}
+use Rattle.store.specs.Writes.{storedOf, writtenOf, writeReply}
 use Rattle.board.specs.Board.{refusedOf, silentOf, sentOf, replyOf, isRead, isWrite, obeyedOf, boardOf}
 use Rattle.board.specs.Answers.{Heeds, Answers}
 use Rattle.board.proofs.Cases.{board-1, board-2, board-silent, board-obeys, obeys-other, obeys-read, obeys-write}
-use Rattle.board.proofs.Verdicts.{write-when}
+use Rattle.store.proofs.Verdicts.{write-when}
 
 -- what a heeded frame gives: the bytes of a reply, and the next meter
 pub data Gives (m : Meter) (frame : List ℕ) (bytes : List ℕ) (n : Meter) : Type 0 where

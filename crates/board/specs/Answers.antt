@@ -23,7 +23,7 @@ use Rattle.meter.specs.Meters.{meterOk}
 use Rattle.board.specs.declared.Reply.the-variants.{Silent, Sent, Refused}
 use Rattle.board.specs.declared.Handled.{Handled}
 use Rattle.board.specs.Reads.{itemsSent}
-use Rattle.board.specs.Writes.{storedOf, writtenOf}
+use Rattle.store.specs.Writes.{storedOf, writtenOf}
 use Rattle.board.specs.Board.{silentOf, sentOf, isRead, isWrite, boardOf}
 
 -- the meter heeds a frame: steps 1 and 2 are passed

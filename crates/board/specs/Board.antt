@@ -15,7 +15,7 @@ use Rattle.meter.specs.Meters.{meterOk}
 use Rattle.board.specs.declared.Reply.the-variants.{Silent, Sent, Refused}
 use Rattle.board.specs.declared.Handled.{Handled}
 use Rattle.board.specs.Reads.{readReply}
-use Rattle.board.specs.Writes.{writtenOf, writeReply}
+use Rattle.store.specs.Writes.{writtenOf, writeReply}
 
 -- what a frame leads to: the answer with the meter's record, and the reply buffer
 pub record Outcome : Type 0 where

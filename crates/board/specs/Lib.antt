@@ -1,4 +1,3 @@
 pub mod Reads
-pub mod Writes
 pub mod Board
 pub mod Answers

@@ -1,6 +1,5 @@
 // The board: a frame in, the reply out (paper 01, "What the meter does with a frame").
 mod reads;
-mod writes;
 
 ghost use mathlib.Core.Path.{_≡_};
 ghost use mathlib.Core.Bool.{true, false};
@@ -88,9 +87,10 @@ fn write(meter: Meter, frame: &[u8], buffer: &mut [u8]) -> Handled
     ensures { λ r. ⌜ r ≡ obeyedOf meter (now (frame .entry)) (now (buffer .entry)) .handled ⌝ }
     ensures { λ _. ⌜ now (buffer .exit) ≡ obeyedOf meter (now (frame .entry)) (now (buffer .entry)) .buffer ⌝ }
 {
-    let written = writes::write(meter, frame);
+    let written = store::write(meter, frame);
     let next = written.meter;
-    if frame[0] == modbus::BROADCAST {
+    let address = frame[0];
+    if address == modbus::BROADCAST {
         return Handled {
             reply: Reply::Silent,
             meter: next,

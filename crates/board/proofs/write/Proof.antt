@@ -4,17 +4,17 @@ use native.Mathlib.Omega.{arith}
 use borrow.Author.Needs.{needs}
 use Rattle.modbus.specs.declared.Verdict.the-variants.{Good, Wrong}
 use Rattle.modbus.proofs.Frames.{heeded, shaped-length}
-use Rattle.board.specs.Writes.{writtenOf}
+use Rattle.store.specs.Writes.{writtenOf}
 use Rattle.board.proofs.Cases.{parts, write-silent, write-sent}
-use Rattle.board.proofs.Verdicts.{write-when}
+use Rattle.store.proofs.Verdicts.{write-when}
 use Rattle.board.proofs.write.Statement.{statement}
 use Rattle.board.proofs.write.Tie as tie
 
 write-requires : tie.Need-write-requires
 write-requires c κs = search needs
 
-shared-slice-read-if1 : tie.Need-shared-slice-read-if1
-shared-slice-read-if1 c =
+shared-slice-read-address : tie.Need-shared-slice-read-address
+shared-slice-read-address c =
     let s = c .before .before .before .before .before in
     omega (arith, heeded (s .args .meter .address) (s .args .frame .now) (s .pre .0) .least)
 
@@ -70,7 +70,7 @@ write-spec =
     tie.close
     (tie.spec
     write-requires
-    shared-slice-read-if1
+    shared-slice-read-address
     returns
     enum-told
     put-echo-requires

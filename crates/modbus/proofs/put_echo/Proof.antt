@@ -1,4 +1,4 @@
--- 
+-- The bytes that are left to copy, stored behind those that were, are the six that are echoed; the CRC behind them seals it.
 use mathlib.Core.Path.{_≡_, refl, sym, ap, _∙_}
 use Prim.Native.Nat.{_-_, _≤_}
 use native.Mathlib.Omega.{arith}

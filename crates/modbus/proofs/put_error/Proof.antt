@@ -1,4 +1,4 @@
--- 
+-- Three stores are the reply without its CRC, and the CRC behind them seals it.
 use mathlib.Core.Path.{refl, ap, _∙_}
 use mathlib.Core.List.{[], _∷_}
 use Prim.Native.Nat.{_+_}

@@ -1,4 +1,4 @@
--- 
+-- Each return has its tests behind it, and a law of the definition for them.
 use mathlib.Core.Path.{_∙_}
 use borrow.Author.Tests.{eq-eqb, ne-eqb}
 use Rattle.directory.specs.Table.{directory}

@@ -1,4 +1,4 @@
--- 
+-- The rules are looked at in another order than the paper has them, which makes no difference to whether one of them holds.
 use native.Mathlib.Omega.{arith}
 use borrow.Author.Tests.{le-leb, lt-leb}
 use Rattle.modbus.proofs.Frames.{by-length, by-address, by-function, by-crc, long-enough}

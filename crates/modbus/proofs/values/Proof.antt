@@ -1,4 +1,4 @@
--- 
+-- The words that are left to read, stored behind those that were, are all of them; they fill the array, so nothing of it is left.
 use mathlib.Core.Path.{_≡_, refl, sym, ap, _∙_}
 use Prim.Native.Nat.{_+_, _-_, _*_, _≤_}
 use native.Mathlib.Nat.{sub-zero}

@@ -1,4 +1,4 @@
--- 
+-- A frame under nine bytes is not shaped; of a longer one the three tests are the written ones.
 use native.Mathlib.Omega.{arith}
 use Rattle.modbus.proofs.Frames.{shape-short, shape-long}
 use borrow.Author.Needs.{needs}

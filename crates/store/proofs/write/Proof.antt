@@ -1,4 +1,4 @@
--- 
+-- A write that is not shaped, or goes to no group, is wrong; the others are judged where their group is known.
 use mathlib.Core.Path.{_≡_, sym, ap, _∙_}
 use mathlib.Core.Bool.{true}
 use Prim.Native.Nat.{ℕ}
@@ -7,10 +7,10 @@ use native.Mathlib.Omega.{arith}
 use borrow.Author.Tests.{not-true, not-false, eq-eqb, ne-eqb}
 use Rattle.modbus.specs.Frame.{writeShaped}
 use Rattle.modbus.proofs.Frames.{shaped-length}
-use Rattle.board.proofs.Stored.{misshaped, nowhere}
+use Rattle.store.proofs.Stored.{misshaped, nowhere}
 use borrow.Author.Needs.{needs}
-use Rattle.board.proofs.writes.write.Statement.{statement}
-use Rattle.board.proofs.writes.write.Tie as tie
+use Rattle.store.proofs.write.Statement.{statement}
+use Rattle.store.proofs.write.Tie as tie
 
 write-shaped-requires : tie.Need-write-shaped-requires
 write-shaped-requires c κs = search needs

@@ -10,7 +10,7 @@ use Rattle.modbus.specs.declared.Verdict.the-variants.{Good}
 use Rattle.modbus.specs.Frame.{startOf, numberOf, valuesOf, writeShaped}
 use Rattle.meter.specs.declared.Meter.{Meter}
 use Rattle.meter.specs.Answers.{withSetup}
-use Rattle.board.specs.Writes.{toStandard, toOutput, wrongOf, writtenOf}
+use Rattle.store.specs.Writes.{toStandard, toOutput, wrongOf, writtenOf}
 
 module _ (m : Meter) (frame : List ℕ) where
   pub misshaped : writeShaped frame ≡ false → wrongOf m Data ≡ writtenOf m frame

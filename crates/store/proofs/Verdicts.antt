@@ -1,19 +1,25 @@
 -- A write is judged by five tests in their order: which verdict each of them leads to, and what becomes of the record.
 use mathlib.Core.Path.{_≡_, refl, sym, ap, _∙_}
 use mathlib.Core.Logic.{_↔_, _⊎_, inl, inr}
-use mathlib.Core.Bool.{Bool, true, false, _&&_, _||_, not, cond, false≢true}
+use mathlib.Core.Bool.{Bool, true, false, _&&_, _||_, not, cond, false≢true, and-eq-true-iff}
 use mathlib.Core.List.{List}
 use Prim.Native.Nat.{ℕ}
 use native.Mathlib.Omega.{arith}
 use lib.Dec.{eqb}
+use borrow.Author.Tests.{eqb-true}
 use Rattle.refusal.specs.declared.ErrorCode.{ErrorCode}
 use Rattle.refusal.specs.declared.ErrorCode.the-variants.{Function, Address, Data}
 use Rattle.setup.specs.Ranges.{groupOk}
+use Rattle.modbus.specs.declared.Verdict.{Verdict}
 use Rattle.modbus.specs.declared.Verdict.the-variants.{Good, Wrong}
 use Rattle.modbus.specs.Frame.{startOf, numberOf, valuesOf, writeShaped}
 use Rattle.meter.specs.declared.Meter.{Meter}
-use Rattle.board.specs.declared.writes.Written.{Written}
-use Rattle.board.specs.Writes.{toStandard, toOutput, groupWords, storedOf, wrongOf, writtenOf, toGroup, fits, WriteWhen}
+use Rattle.meter.specs.Meters.{meterOk}
+use Rattle.meter.specs.Answers.{withSetup}
+use Rattle.meter.proofs.Parts.{meter-parts}
+use Rattle.meter.proofs.Answers.{other-within}
+use Rattle.store.specs.declared.Written.{Written}
+use Rattle.store.specs.Writes.{toStandard, toOutput, groupWords, storedOf, wrongOf, writtenOf, toGroup, fits, WriteWhen, WriteWithin}
 
 -- what the tests lead to: a shaped, s and o to a group, n its words, g its values; m is the meter, k the meter with it stored
 abbrev judged : Bool → Bool → Bool → Bool → Bool → Meter → Meter → Written
@@ -120,3 +126,33 @@ write-when =
       kept = λ m frame. rw (is-judged m frame) (keeps m (storedOf m frame) (writeShaped frame) (toGroup frame) (fits frame));
       stored = λ m frame. rw (is-judged m frame) (stores m (storedOf m frame) (writeShaped frame) (toGroup frame) (fits frame));
     }
+
+-- ---- within limits
+
+module _ (m : Meter) (frame : List ℕ) (hm : meterOk m ≡ true) (t : toGroup frame ≡ true) (f : fits frame ≡ true) where
+  -- the values are in the range of the group that they go to
+  ranged : (address : ℕ) → eqb (startOf frame) address ≡ true → groupOk address (valuesOf frame) ≡ true
+  ranged address s =
+      let in-range = and-eq-true-iff (eqb (numberOf frame) (groupWords frame)) _ .0 f .1 in
+      ap (λ (a : ℕ). groupOk a (valuesOf frame)) (sym (eqb-true _ _ s)) ∙ in-range
+
+  groups : (groupOk 0x2000 (m .standard) ≡ true) × (groupOk 0x2200 (m .output) ≡ true)
+  groups = and-eq-true-iff (groupOk 0x2000 (m .standard)) _ .0 (meter-parts m hm .setup)
+
+  stored-within : (s : Bool) → toStandard frame ≡ s → meterOk (storedOf m frame) ≡ true
+  stored-within true s =
+      let e : storedOf m frame ≡ withSetup m (valuesOf frame) (m .output) = rw s refl in
+      ap meterOk e ∙ other-within m (valuesOf frame) (m .output) (m .latest) hm (λ i. ranged 0x2000 s i && groups .1 i)
+  stored-within false s =
+      let e : storedOf m frame ≡ withSetup m (m .standard) (valuesOf frame) = rw s refl in
+      let o : toOutput frame ≡ true = sym (ap (λ (x : Bool). x || toOutput frame) s) ∙ t in
+      ap meterOk e ∙ other-within m (m .standard) (valuesOf frame) (m .latest) hm (λ i. groups .0 i && ranged 0x2200 o i)
+
+by-verdict : (m : Meter) (frame : List ℕ) → meterOk m ≡ true → (v : Verdict) → writtenOf m frame .verdict ≡ v → meterOk (writtenOf m frame .meter) ≡ true
+by-verdict m frame h (Wrong code) e = ap meterOk (write-when .kept m frame code e) ∙ h
+by-verdict m frame h Good e =
+    let l = write-when .legal m frame .0 e in
+    ap meterOk (write-when .stored m frame e) ∙ stored-within m frame h (l .1) (l .2) (toStandard frame) refl
+
+pub write-within : WriteWithin
+write-within = record { write = λ m frame h. by-verdict m frame h (writtenOf m frame .verdict) refl }

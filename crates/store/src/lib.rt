@@ -2,7 +2,7 @@
 ghost use mathlib.Core.Path.{_≡_};
 ghost use mathlib.Core.Bool.{true, false};
 ghost use Rattle.modbus.specs.Frame.{writeShaped};
-ghost use Rattle.board.specs.Writes.{toStandard, toOutput, writtenOf, wrongOf};
+ghost use Rattle.store.specs.Writes.{toStandard, toOutput, writtenOf, wrongOf};
 use meter::Meter;
 use modbus::Verdict;
 use refusal::ErrorCode;
@@ -13,7 +13,8 @@ pub struct Written {
     pub meter: Meter,
 }
 
-pub(crate) fn write(m: Meter, frame: &[u8]) -> Written
+// The meter after a write. What is wrong with one leaves it as it was.
+pub fn write(m: Meter, frame: &[u8]) -> Written
     ensures { λ r. ⌜ r ≡ writtenOf m (now (frame .entry)) ⌝ }
 {
     if !modbus::write_shaped(frame) {

@@ -8,9 +8,9 @@ use borrow.Author.Tests.{not-true, not-false}
 use Rattle.setup.specs.Ranges.{groupOk}
 use Rattle.modbus.specs.Frame.{numberOf, wordsAt, valuesOf}
 use Rattle.modbus.proofs.Frames.{shaped-length}
-use Rattle.board.proofs.Stored.{not-16, bad-16, good-16}
-use Rattle.board.proofs.writes.standard.Statement.{statement}
-use Rattle.board.proofs.writes.standard.Tie as tie
+use Rattle.store.proofs.Stored.{not-24, bad-24, good-24}
+use Rattle.store.proofs.output.Statement.{statement}
+use Rattle.store.proofs.output.Tie as tie
 
 word-at-requires : tie.Need-word-at-requires
 word-at-requires c κs = omega (arith, shaped-length 0 (c .before .args .frame .now) (c .before .pre .0) .0)
@@ -21,13 +21,13 @@ wrong-requires c κs = search needs
 returns : tie.Need-returns
 returns c =
     let s = c .before .before .before .before in
-    c .wrong .ensures ∙ not-16 (s .args .m) (s .args .frame .now) (s .pre .0) (s .pre .1) (λ e. c .before .if1 .taken (c .before .before .word-at .ensures ∙ e))
+    c .wrong .ensures ∙ not-24 (s .args .m) (s .args .frame .now) (s .pre .0) (s .pre .1) (s .pre .2) (λ e. c .before .if1 .taken (c .before .before .word-at .ensures ∙ e))
 
 slice-aggregate-values : tie.Need-slice-aggregate-values
 slice-aggregate-values c = search needs
 
 -- the count that was found
-number : (c : tie.Else1) → numberOf (c .before .before .before .args .frame .now) ≡ 16
+number : (c : tie.Else1) → numberOf (c .before .before .before .args .frame .now) ≡ 24
 number c = sym (c .before .word-at .ensures) ∙ c .if1 .left
 
 values-requires : tie.Need-values-requires
@@ -35,8 +35,8 @@ values-requires c κs =
     let s = c .before .before .before .before in
     omega (arith, shaped-length 0 (s .args .frame .now) (s .pre .0) .1, number (c .before))
 
-standard-ok-requires : tie.Need-standard-ok-requires
-standard-ok-requires c κs = search needs
+output-ok-requires : tie.Need-output-ok-requires
+output-ok-requires c κs = search needs
 
 wrong-requires-2 : tie.Need-wrong-requires-2
 wrong-requires-2 c κs = search needs
@@ -47,23 +47,23 @@ stored v =
     let frame = v .before .before .before .before .before .args .frame .now in
     v .values .ensures ∙ ap (λ (k : ℕ). wordsAt k frame 7) (sym (number (v .before .before)))
 
-in-range : (w : tie.After-standard-ok) {b : Bool} → w .standard-ok .result ≡ b → groupOk 0x2000 (valuesOf (w .before .before .before .before .before .before .before .args .frame .now)) ≡ b
-in-range w h = sym (w .standard-ok .ensures ∙ ap (groupOk 0x2000) (stored (w .before .before))) ∙ h
+in-range : (w : tie.After-output-ok) {b : Bool} → w .output-ok .result ≡ b → groupOk 0x2200 (valuesOf (w .before .before .before .before .before .before .before .args .frame .now)) ≡ b
+in-range w h = sym (w .output-ok .ensures ∙ ap (groupOk 0x2200) (stored (w .before .before))) ∙ h
 
 returns-2 : tie.Need-returns-2
 returns-2 c =
     let s = c .before .before .before .before .before .before .before .before .before in
     let n = number (c .before .before .before .before .before .before) in
-    c .wrong2 .ensures ∙ bad-16 (s .args .m) (s .args .frame .now) (s .pre .0) (s .pre .1) n (in-range (c .before .before) (not-true _ (c .before .if2 .taken)))
+    c .wrong2 .ensures ∙ bad-24 (s .args .m) (s .args .frame .now) (s .pre .0) (s .pre .1) (s .pre .2) n (in-range (c .before .before) (not-true _ (c .before .if2 .taken)))
 
 returns-3 : tie.Need-returns-3
 returns-3 c =
     let s = c .before .before .before .before .before .before .before .before in
     let n = number (c .before .before .before .before .before) in
-    rw (stored (c .before .before .before)) (good-16 (s .args .m) (s .args .frame .now) (s .pre .0) (s .pre .1) n (in-range (c .before) (not-false _ (c .if2 .left))))
+    rw (stored (c .before .before .before)) (good-24 (s .args .m) (s .args .frame .now) (s .pre .0) (s .pre .1) (s .pre .2) n (in-range (c .before) (not-false _ (c .if2 .left))))
 
-pub standard-spec : {M : Type 1} → statement M
-standard-spec =
+pub output-spec : {M : Type 1} → statement M
+output-spec =
     tie.close
     (tie.spec
     word-at-requires
@@ -71,7 +71,7 @@ standard-spec =
     returns
     slice-aggregate-values
     values-requires
-    standard-ok-requires
+    output-ok-requires
     wrong-requires-2
     returns-2
     returns-3)
