@@ -32,24 +32,21 @@ pub fn handle(meter: Meter, frame: &[u8], buffer: &mut [u8]) -> Handled
     ensures { λ _. ⌜ now (buffer .exit) ≡ boardOf meter (now (frame .entry)) (now (buffer .entry)) .buffer ⌝ }
 {
     if !meter.within() {
-        return Handled {
-            reply: Reply::Refused(Refusal::MeterOutOfLimits),
-            meter,
-        };
+        return with(meter, Reply::Refused(Refusal::MeterOutOfLimits));
     }
     if buffer.len() < modbus::FRAME_MOST {
-        return Handled {
-            reply: Reply::Refused(Refusal::BufferShort),
-            meter,
-        };
+        return with(meter, Reply::Refused(Refusal::BufferShort));
     }
     if modbus::silence(meter.address, frame) {
-        return Handled {
-            reply: Reply::Silent,
-            meter,
-        };
+        return with(meter, Reply::Silent);
     }
     obey(meter, frame, buffer)
+}
+
+fn with(meter: Meter, reply: Reply) -> Handled
+    ensures { λ r. ⌜ r ≡ record { reply = reply; meter = meter } ⌝ }
+{
+    Handled { reply, meter }
 }
 
 // The function of a frame that the meter heeds. Only a write does anything when it is for all meters.
@@ -64,10 +61,7 @@ fn obey(meter: Meter, frame: &[u8], buffer: &mut [u8]) -> Handled
         return write(meter, frame, buffer);
     }
     if frame[0] == modbus::BROADCAST {
-        return Handled {
-            reply: Reply::Silent,
-            meter,
-        };
+        return with(meter, Reply::Silent);
     }
     let length = if frame[1] == modbus::READ {
         reads::read(meter, frame, buffer)
@@ -91,10 +85,7 @@ fn write(meter: Meter, frame: &[u8], buffer: &mut [u8]) -> Handled
     let next = written.meter;
     let address = frame[0];
     if address == modbus::BROADCAST {
-        return Handled {
-            reply: Reply::Silent,
-            meter: next,
-        };
+        return with(next, Reply::Silent);
     }
     let verdict = written.verdict;
     let length = match verdict {

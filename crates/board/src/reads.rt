@@ -5,6 +5,7 @@ ghost use Prim.Native.Nat.{_+_, _*_, _≤_, _<_};
 ghost use lib.ListN.{length};
 ghost use lib.Seq.{sets};
 ghost use Rattle.directory.specs.declared.Span.the-variants.{Items};
+ghost use Rattle.directory.specs.Item.{items};
 ghost use Rattle.directory.specs.Table.{directory};
 ghost use Rattle.directory.specs.Run.{runItems, wordsOf};
 ghost use Rattle.modbus.specs.Frame.{functionOf};
@@ -12,6 +13,7 @@ ghost use Rattle.modbus.specs.Read.{readIn};
 ghost use Rattle.meter.specs.Meters.{meterOk};
 ghost use Rattle.board.specs.Reads.{itemsSent, readBytes, readReply};
 use directory::Span;
+use directory::table;
 use meter::Meter;
 
 // Before the words of a data reply: address, function and byte number.
@@ -25,14 +27,34 @@ pub(crate) fn read(m: Meter, frame: &[u8], buffer: &mut [u8]) -> usize
     ensures { λ r. ⌜ r ≡ length (readReply m (now (frame .entry))) ⌝ }
     ensures { λ _. ⌜ now (buffer .exit) ≡ sets (now (buffer .entry)) 0 (readReply m (now (frame .entry))) ⌝ }
 {
-    match modbus::read(frame) {
+    along(&table::TABLE, m, frame, buffer)
+}
+
+// The same with the table lent: to name the constant is to lay it out anew.
+fn along(t: &[u16], m: Meter, frame: &[u8], buffer: &mut [u8]) -> usize
+    requires { ⌜ (568 ≤ length (now t)) × (items (now t) ≡ directory) ⌝ }
+    requires { ⌜ meterOk m ≡ true ⌝ }
+    requires { ⌜ (2 ≤ length (now frame)) × (functionOf (now frame) < 0x80) ⌝ }
+    requires { ⌜ 256 ≤ length (now buffer) ⌝ }
+    ensures { λ r. ⌜ r ≡ length (readReply m (now (frame .entry))) ⌝ }
+    ensures { λ _. ⌜ now (buffer .exit) ≡ sets (now (buffer .entry)) 0 (readReply m (now (frame .entry))) ⌝ }
+{
+    match modbus::read_in(t, directory::ITEMS, frame) {
         Span::Error(code) => modbus::put_error(frame, code, buffer),
-        Span::Items { first, count } => put_data(m, frame, first, count, buffer),
+        Span::Items { first, count } => put_data(t, m, frame, first, count, buffer),
     }
 }
 
 // The data of a read that asks for `count` items from the index `first` on.
-fn put_data(m: Meter, frame: &[u8], first: usize, count: usize, buffer: &mut [u8]) -> usize
+fn put_data(
+    t: &[u16],
+    m: Meter,
+    frame: &[u8],
+    first: usize,
+    count: usize,
+    buffer: &mut [u8],
+) -> usize
+    requires { ⌜ (568 ≤ length (now t)) × (items (now t) ≡ directory) ⌝ }
     requires { ⌜ meterOk m ≡ true ⌝ }
     requires { ⌜ readIn directory (now frame) ≡ Items first count ⌝ }
     requires { ⌜ 256 ≤ length (now buffer) ⌝ }
@@ -42,23 +64,24 @@ fn put_data(m: Meter, frame: &[u8], first: usize, count: usize, buffer: &mut [u8
     buffer[0] = frame[0];
     buffer[1] = frame[1];
     buffer[2] = (2 * words::word_at(frame, 4)) as u8;
-    let end = put_items(m, first, count, buffer);
+    let end = put_items(t, m, first, count, buffer);
     crc::put(buffer, end);
     end + 2
 }
 
-// The words of items, from the third byte on; answers where they end.
-fn put_items(m: Meter, first: usize, count: usize, buffer: &mut [u8]) -> usize
+// The words of items, behind the first three bytes; answers where they end.
+fn put_items(t: &[u16], m: Meter, first: usize, count: usize, buffer: &mut [u8]) -> usize
+    requires { ⌜ (568 ≤ length (now t)) × (items (now t) ≡ directory) ⌝ }
     requires { ⌜ meterOk m ≡ true ⌝ }
     requires { ⌜ first + count ≤ length directory ⌝ }
-    requires { ⌜ 3 + 2 * wordsOf (runItems directory first count) ≤ length (now buffer) ⌝ }
+    requires { ⌜ (wordsOf (runItems directory first count) ≤ 120) × (256 ≤ length (now buffer)) ⌝ }
     ensures { λ r. ⌜ r ≡ 3 + 2 * wordsOf (runItems directory first count) ⌝ }
     ensures { λ _. ⌜ now (buffer .exit) ≡ sets (now (buffer .entry)) 3 (itemsSent m (runItems directory first count)) ⌝ }
 {
     let mut at = HEAD;
     let mut i: usize = 0;
     while i < count {
-        let it = directory::row(first + i);
+        let it = directory::item_at(t, first + i);
         words::put(buffer, at, it.words as usize, registers::shown(m, it.quantity));
         at += 2 * it.words as usize;
         i += 1;

@@ -1,13 +1,16 @@
 // Work to count instructions by. docs/COST.md has the figures, each the difference that a thousand more turns make.
 mod bytes;
 mod figures;
+mod polls;
 
 use libc::STDIN_FILENO;
 use libc::STDOUT_FILENO;
 
 fn main() {
-    let mut buf = [0u8; 258];
-    let n = io::read_full(STDIN_FILENO, &mut buf[..256]);
+    let mut buf = [0u8; 256];
+    let n = io::read_full(STDIN_FILENO, &mut buf);
+    io::print_hex(STDOUT_FILENO, polls::answered(&buf[..n]) as u64, 2);
+    io::write_all(STDOUT_FILENO, b"\n");
     io::print_hex(STDOUT_FILENO, bytes::sealed(&mut buf, n) as u64, 2);
     io::write_all(STDOUT_FILENO, b"\n");
     io::print_decimal(STDOUT_FILENO, figures::counted());

@@ -49,22 +49,6 @@ pub fn run(start: u16, words: u16) -> Span
     run_in(&table::TABLE, ITEMS, start, words)
 }
 
-// The item of an index in the meter's directory; past its end, one that sends nothing.
-pub fn row(i: usize) -> Item
-    ensures { λ r. ⌜ r ≡ getD directory i none ⌝ }
-{
-    if i < ITEMS {
-        item_at(&table::TABLE, i)
-    } else {
-        Item {
-            start: 0,
-            fills: 0,
-            words: 0,
-            quantity: 0,
-        }
-    }
-}
-
 // The run for `words` words from `start`. An item that starts where the one before ends can only be the table's next,
 // so only the first is looked for.
 pub fn run_in(t: &[u16], n: usize, start: u16, words: u16) -> Span

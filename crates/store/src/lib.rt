@@ -2,6 +2,7 @@
 ghost use mathlib.Core.Path.{_≡_};
 ghost use mathlib.Core.Bool.{true, false};
 ghost use Rattle.modbus.specs.Frame.{writeShaped};
+ghost use Rattle.meter.specs.Answers.{withSetup};
 ghost use Rattle.store.specs.Writes.{toStandard, toOutput, writtenOf, wrongOf};
 use meter::Meter;
 use modbus::Verdict;
@@ -49,12 +50,18 @@ fn standard(m: Meter, frame: &[u8]) -> Written
     if !setup::standard_ok(group) {
         return wrong(m, ErrorCode::Data);
     }
-    let mut next = m;
-    next.standard = group;
     Written {
         verdict: Verdict::Good,
-        meter: next,
+        meter: with_standard(m, group),
     }
+}
+
+fn with_standard(m: Meter, group: [u16; 16]) -> Meter
+    ensures { λ r. ⌜ r ≡ withSetup m group (m .output) ⌝ }
+{
+    let mut next = m;
+    next.standard = group;
+    next
 }
 
 // A write to the 24 words from 0x2200 on.
@@ -70,10 +77,16 @@ fn output(m: Meter, frame: &[u8]) -> Written
     if !setup::output_ok(group) {
         return wrong(m, ErrorCode::Data);
     }
-    let mut next = m;
-    next.output = group;
     Written {
         verdict: Verdict::Good,
-        meter: next,
+        meter: with_output(m, group),
     }
+}
+
+fn with_output(m: Meter, group: [u16; 24]) -> Meter
+    ensures { λ r. ⌜ r ≡ withSetup m (m .standard) group ⌝ }
+{
+    let mut next = m;
+    next.output = group;
+    next
 }

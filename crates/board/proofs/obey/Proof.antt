@@ -1,4 +1,5 @@
 -- The function decides; what is for all meters is answered by none.
+use mathlib.Core.Path.{_∙_}
 use native.Mathlib.Omega.{arith}
 use borrow.Author.Needs.{needs}
 use borrow.Author.Tests.{eq-eqb, ne-eqb}
@@ -27,10 +28,14 @@ returns c = search needs
 shared-slice-read-if2 : tie.Need-shared-slice-read-if2
 shared-slice-read-if2 c = omega (arith, heard (c .before .before .before .before .before) .least)
 
+with-requires : tie.Need-with-requires
+with-requires c κs = search needs
+
 returns-2 : tie.Need-returns-2
 returns-2 c =
-    let s = c .before .before .before .before .before .before in
-    parts (unwritten (s .args .meter) (s .args .frame .now) (s .args .buffer .now) (ne-eqb _ _ (c .before .before .if1 .left)) (c .if2 .taken))
+    let s = c .before .before .before .before .before .before .before in
+    let b = parts (unwritten (s .args .meter) (s .args .frame .now) (s .args .buffer .now) (ne-eqb _ _ (c .before .before .before .if1 .left)) (c .before .if2 .taken)) in
+    (c .with .ensures ∙ b .0, b .1)
 
 shared-slice-read-if3 : tie.Need-shared-slice-read-if3
 shared-slice-read-if3 c = omega (arith, heard (c .before .before .before .before .before .before .before) .least)
@@ -74,6 +79,7 @@ obey-spec =
     same-length
     returns
     shared-slice-read-if2
+    with-requires
     returns-2
     shared-slice-read-if3
     read-requires

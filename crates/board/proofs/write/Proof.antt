@@ -1,5 +1,5 @@
 -- What the write came to is stored and, unless it is for all meters, answered by its verdict.
-use mathlib.Core.Path.{_≡_}
+use mathlib.Core.Path.{_≡_, _∙_}
 use native.Mathlib.Omega.{arith}
 use borrow.Author.Needs.{needs}
 use Rattle.modbus.specs.declared.Verdict.the-variants.{Good, Wrong}
@@ -18,11 +18,15 @@ shared-slice-read-address c =
     let s = c .before .before .before .before .before in
     omega (arith, heeded (s .args .meter .address) (s .args .frame .now) (s .pre .0) .least)
 
+with-requires : tie.Need-with-requires
+with-requires c κs = search needs
+
 returns : tie.Need-returns
 returns c =
-    let s = c .before .before .before .before .before .before in
-    let w = c .before .before .before .write in
-    parts (write-silent (s .args .meter) (s .args .frame .now) (s .args .buffer .now) (s .pre .1 .0) (w .result) (w .ensures) (c .if1 .taken))
+    let s = c .before .before .before .before .before .before .before in
+    let w = c .before .before .before .before .write in
+    let b = parts (write-silent (s .args .meter) (s .args .frame .now) (s .args .buffer .now) (s .pre .1 .0) (w .result) (w .ensures) (c .before .if1 .taken)) in
+    (c .with .ensures ∙ b .0, b .1)
 
 enum-told : tie.Need-enum-told
 enum-told c = search needs
@@ -71,6 +75,7 @@ write-spec =
     (tie.spec
     write-requires
     shared-slice-read-address
+    with-requires
     returns
     enum-told
     put-echo-requires

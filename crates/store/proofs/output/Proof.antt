@@ -1,13 +1,17 @@
 -- The count is tested, then the words are read, then the group is tested: each return has a law of the definition for it.
 use mathlib.Core.Path.{_≡_, sym, ap, _∙_}
 use mathlib.Core.Bool.{Bool}
+use mathlib.Core.List.{List}
 use Prim.Native.Nat.{ℕ}
 use native.Mathlib.Omega.{arith}
 use borrow.Author.Needs.{needs}
 use borrow.Author.Tests.{not-true, not-false}
 use Rattle.setup.specs.Ranges.{groupOk}
+use Rattle.modbus.specs.declared.Verdict.the-variants.{Good}
 use Rattle.modbus.specs.Frame.{numberOf, wordsAt, valuesOf}
 use Rattle.modbus.proofs.Frames.{shaped-length}
+use Rattle.meter.specs.declared.Meter.{Meter}
+use Rattle.meter.specs.Answers.{withSetup}
 use Rattle.store.proofs.Stored.{not-24, bad-24, good-24}
 use Rattle.store.proofs.output.Statement.{statement}
 use Rattle.store.proofs.output.Tie as tie
@@ -56,11 +60,16 @@ returns-2 c =
     let n = number (c .before .before .before .before .before .before) in
     c .wrong2 .ensures ∙ bad-24 (s .args .m) (s .args .frame .now) (s .pre .0) (s .pre .1) (s .pre .2) n (in-range (c .before .before) (not-true _ (c .before .if2 .taken)))
 
+with-output-requires : tie.Need-with-output-requires
+with-output-requires c κs = search needs
+
 returns-3 : tie.Need-returns-3
 returns-3 c =
-    let s = c .before .before .before .before .before .before .before .before in
-    let n = number (c .before .before .before .before .before) in
-    rw (stored (c .before .before .before)) (good-24 (s .args .m) (s .args .frame .now) (s .pre .0) (s .pre .1) (s .pre .2) n (in-range (c .before) (not-false _ (c .if2 .left))))
+    let s = c .before .before .before .before .before .before .before .before .before in
+    let n = number (c .before .before .before .before .before .before) in
+    let next = c .with-output .ensures ∙ ap (λ (g : List ℕ). withSetup (s .args .m) (s .args .m .standard) g) (stored (c .before .before .before .before)) in
+    let good = in-range (c .before .before) (not-false _ (c .before .if2 .left)) in
+    ap (λ (m : Meter). record { verdict = Good; meter = m }) next ∙ good-24 (s .args .m) (s .args .frame .now) (s .pre .0) (s .pre .1) (s .pre .2) n good
 
 pub output-spec : {M : Type 1} → statement M
 output-spec =
@@ -74,4 +83,5 @@ output-spec =
     output-ok-requires
     wrong-requires-2
     returns-2
+    with-output-requires
     returns-3)

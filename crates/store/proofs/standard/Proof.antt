@@ -1,13 +1,17 @@
 -- The count is tested, then the words are read, then the group is tested: each return has a law of the definition for it.
 use mathlib.Core.Path.{_≡_, sym, ap, _∙_}
 use mathlib.Core.Bool.{Bool}
+use mathlib.Core.List.{List}
 use Prim.Native.Nat.{ℕ}
 use native.Mathlib.Omega.{arith}
 use borrow.Author.Needs.{needs}
 use borrow.Author.Tests.{not-true, not-false}
 use Rattle.setup.specs.Ranges.{groupOk}
+use Rattle.modbus.specs.declared.Verdict.the-variants.{Good}
 use Rattle.modbus.specs.Frame.{numberOf, wordsAt, valuesOf}
 use Rattle.modbus.proofs.Frames.{shaped-length}
+use Rattle.meter.specs.declared.Meter.{Meter}
+use Rattle.meter.specs.Answers.{withSetup}
 use Rattle.store.proofs.Stored.{not-16, bad-16, good-16}
 use Rattle.store.proofs.standard.Statement.{statement}
 use Rattle.store.proofs.standard.Tie as tie
@@ -56,11 +60,16 @@ returns-2 c =
     let n = number (c .before .before .before .before .before .before) in
     c .wrong2 .ensures ∙ bad-16 (s .args .m) (s .args .frame .now) (s .pre .0) (s .pre .1) n (in-range (c .before .before) (not-true _ (c .before .if2 .taken)))
 
+with-standard-requires : tie.Need-with-standard-requires
+with-standard-requires c κs = search needs
+
 returns-3 : tie.Need-returns-3
 returns-3 c =
-    let s = c .before .before .before .before .before .before .before .before in
-    let n = number (c .before .before .before .before .before) in
-    rw (stored (c .before .before .before)) (good-16 (s .args .m) (s .args .frame .now) (s .pre .0) (s .pre .1) n (in-range (c .before) (not-false _ (c .if2 .left))))
+    let s = c .before .before .before .before .before .before .before .before .before in
+    let n = number (c .before .before .before .before .before .before) in
+    let next = c .with-standard .ensures ∙ ap (λ (g : List ℕ). withSetup (s .args .m) g (s .args .m .output)) (stored (c .before .before .before .before)) in
+    let good = in-range (c .before .before) (not-false _ (c .before .if2 .left)) in
+    ap (λ (m : Meter). record { verdict = Good; meter = m }) next ∙ good-16 (s .args .m) (s .args .frame .now) (s .pre .0) (s .pre .1) n good
 
 pub standard-spec : {M : Type 1} → statement M
 standard-spec =
@@ -74,4 +83,5 @@ standard-spec =
     standard-ok-requires
     wrong-requires-2
     returns-2
+    with-standard-requires
     returns-3)

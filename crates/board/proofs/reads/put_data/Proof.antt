@@ -20,7 +20,7 @@ use Rattle.board.proofs.reads.put_data.Statement.{statement}
 use Rattle.board.proofs.reads.put_data.Tie as tie
 
 asked : (s : tie.Start) → Asks directory (s .args .frame .now) (s .args .first) (s .args .count)
-asked s = asks directory (s .args .frame .now) (s .args .first) (s .args .count) (s .pre .1 .0)
+asked s = asks directory (s .args .frame .now) (s .args .first) (s .args .count) (s .pre .1 .1 .0)
 
 inside : (s : tie.Start) → s .args .first + s .args .count ≤ length directory
 inside s = run-sends .inside directory _ _ (s .args .first) (s .args .count) directory-ruled (asked s .run)
@@ -29,33 +29,33 @@ sends : (s : tie.Start) → wordsOf (runItems directory (s .args .first) (s .arg
 sends s = run-sends .sends directory _ _ (s .args .first) (s .args .count) directory-ruled (asked s .run)
 
 shared-slice-read-buffer : tie.Need-shared-slice-read-buffer
-shared-slice-read-buffer c = omega (arith, asked (c .before .before .before) .long)
+shared-slice-read-buffer c = omega (arith, asked (c .before .before .before .before) .long)
 
 slice-write-buffer : tie.Need-slice-write-buffer
 slice-write-buffer c = search needs
 
 shared-slice-read-buffer-2 : tie.Need-shared-slice-read-buffer-2
-shared-slice-read-buffer-2 c = omega (arith, asked (c .before .before .before .before) .long)
+shared-slice-read-buffer-2 c = omega (arith, asked (c .before .before .before .before .before) .long)
 
 slice-write-buffer-2 : tie.Need-slice-write-buffer-2
 slice-write-buffer-2 c = simp length-set (omega arith)
 
 word-at-requires : tie.Need-word-at-requires
-word-at-requires c κs = omega (arith, asked (c .before .before .before .before) .long)
+word-at-requires c κs = omega (arith, asked (c .before .before .before .before .before) .long)
 
 mul-buffer : tie.Need-mul-buffer
-mul-buffer c = omega (arith, asked (c .before .before .before .before .before) .most, c .word-at .ensures)
+mul-buffer c = omega (arith, asked (c .before .before .before .before .before .before) .most, c .word-at .ensures)
 
 cast-buffer : tie.Need-cast-buffer
-cast-buffer c = omega (arith, asked (c .before .before .before .before .before) .most, c .word-at .ensures)
+cast-buffer c = omega (arith, asked (c .before .before .before .before .before .before) .most, c .word-at .ensures)
 
 slice-write-buffer-3 : tie.Need-slice-write-buffer-3
 slice-write-buffer-3 c = simp length-set (omega arith)
 
 put-items-requires : tie.Need-put-items-requires
 put-items-requires c κs =
-    let s = c .before .before .before .before .before .before in
-    (s .pre .0, (inside s, simp length-set (omega (arith, sends s, asked s .most, s .pre .1 .1))))
+    let s = c .before .before .before .before .before .before .before in
+    (s .pre .0, (s .pre .1 .0, (inside s, (omega (arith, sends s, asked s .most), simp length-set (omega (arith, s .pre .1 .1 .1))))))
 
 put-requires : tie.Need-put-requires
 put-requires c κs = tt
@@ -72,7 +72,7 @@ abbrev bytes : tie.Start → List ℕ
 bytes s = bytes-for s (numberOf (s .args .frame .now))
 
 abbrev start : tie.After-put-items → tie.Start
-start p = p .before .before .before .before .before .before .before
+start p = p .before .before .before .before .before .before .before .before
 
 long : (p : tie.After-put-items) → length (bytes (start p)) ≡ p .put-items .result
 long p =
@@ -80,9 +80,9 @@ long p =
     omega (arith, length-items (s .args .m) (runItems directory (s .args .first) (s .args .count)), p .put-items .ensures .0)
 
 room : (p : tie.After-put-items) → p .put-items .result + 2 ≤ length (start p .args .buffer .now)
-room p = let s = start p in omega (arith, p .put-items .ensures .0, sends s, asked s .most, s .pre .1 .1)
+room p = let s = start p in omega (arith, p .put-items .ensures .0, sends s, asked s .most, s .pre .1 .1 .1)
 
-stored : (p : tie.After-put-items) → p .put-items .last .1 .1 .1 .0 ≡ sets (start p .args .buffer .now) 0 (bytes (start p))
+stored : (p : tie.After-put-items) → p .put-items .last .1 .1 .1 .1 .0 ≡ sets (start p .args .buffer .now) 0 (bytes (start p))
 stored p =
     p .put-items .ensures .1 ∙ ap (λ (n : ℕ). sets (start p .args .buffer .now) 0 (bytes-for (start p) n)) (p .before .before .word-at .ensures)
 
@@ -97,7 +97,7 @@ returns c =
 
 same-length : tie.Need-same-length
 same-length c =
-    let s = c .before .before .before .before .before .before .before .before .before .before .before .before .before in
+    let s = c .before .before .before .before .before .before .before .before .before .before .before .before .before .before in
     ap length (returns c .1) ∙ length-sets (s .args .buffer .now) 0 (readBytes (s .args .m) (s .args .frame .now) (Items (s .args .first) (s .args .count)))
 
 pub put-data-spec : {M : Type 1} → statement M

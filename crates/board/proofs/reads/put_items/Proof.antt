@@ -3,11 +3,12 @@ use mathlib.Core.Path.{_≡_, refl, sym, ap, _∙_}
 use mathlib.Core.List.{List}
 use Prim.Native.Nat.{ℕ, _+_, _-_, _*_, _≤_}
 use native.Mathlib.Omega.{arith}
-use lib.ListN.{length}
+use lib.ListN.{length, getD}
 use lib.Seq.{sets, length-sets}
 use borrow.Author.Needs.{needs}
 use Rattle.words.specs.Words.{sent}
 use Rattle.directory.specs.declared.Item.{Item}
+use Rattle.directory.specs.Item.{none}
 use Rattle.directory.specs.Table.{directory}
 use Rattle.directory.specs.Run.{runItems, wordsOf}
 use Rattle.directory.proofs.Order.{Narrow, ruled-narrow}
@@ -19,49 +20,57 @@ use Rattle.board.proofs.reads.put_items.Statement.{statement}
 use Rattle.board.proofs.reads.put_items.Tie as tie
 
 abbrev Inv-loop : tie.InvT-loop
-Inv-loop m first count buffer₀ at₀ i₀ buffer at i =
+Inv-loop t m first count buffer₀ at₀ i₀ buffer at i =
     (i ≤ count) ×
     (length buffer ≡ length buffer₀) ×
     (at + 2 * wordsOf (left directory first count i) ≡ 3 + 2 * wordsOf (runItems directory first count)) ×
     (sets buffer at (itemsSent m (left directory first count i)) ≡ sets buffer₀ 3 (itemsSent m (runItems directory first count)))
 
 abbrev μ-loop : tie.MeasureT-loop
-μ-loop m first count buffer₀ at₀ i₀ buffer at i = count - i
+μ-loop t m first count buffer₀ at₀ i₀ buffer at i = count - i
 
 loop-holds : tie.Need-loop-holds Inv-loop μ-loop
 loop-holds c =
-    let a = c .before .args in
+    let a = c .before .before .args in
     (omega arith, refl, rw (left-all directory (a .first) (a .count)) refl, rw (left-all directory (a .first) (a .count)) refl)
 
-add-row : tie.Need-add-row Inv-loop μ-loop
-add-row c = omega (arith, directory-rules .count, c .before .before .before .pre .1 .0)
+add-item-at : tie.Need-add-item-at Inv-loop μ-loop
+add-item-at c = omega (arith, directory-rules .count, c .before .before .before .before .pre .1 .1 .0)
 
-row-requires : tie.Need-row-requires Inv-loop μ-loop
-row-requires c κs = tt
+item-at-requires : tie.Need-item-at-requires Inv-loop μ-loop
+item-at-requires c κs =
+    let s = c .before .before .before .before in
+    omega (arith, s .pre .0 .0, s .pre .1 .1 .0, directory-rules .count)
+
+-- it is the directory's
+item-is : (r : tie.After-item-at Inv-loop μ-loop) → r .item-at .result ≡ getD directory (r .before .before .before .before .before .args .first + r .before .before .loop .i) none
+item-is r =
+    let s = r .before .before .before .before .before in
+    r .item-at .ensures ∙ ap (λ (its : List Item). getD its (s .args .first + r .before .before .loop .i) none) (s .pre .0 .1)
 
 -- the item of this turn sends one word or two
-narrow : (r : tie.After-row Inv-loop μ-loop) → Narrow (r .row .result)
+narrow : (r : tie.After-item-at Inv-loop μ-loop) → Narrow (r .item-at .result)
 narrow r =
-    let s = r .before .before .before .before in
-    rw (r .row .ensures) (ruled-narrow directory directory-ruled (s .args .first + r .before .before .loop .i) (omega (arith, s .pre .1 .0)))
+    let s = r .before .before .before .before .before in
+    rw (item-is r) (ruled-narrow directory directory-ruled (s .args .first + r .before .before .loop .i) (omega (arith, s .pre .1 .1 .0)))
 
 -- and its words come off those that are left
-passed : (r : tie.After-row Inv-loop μ-loop) → wordsOf (left directory (r .before .before .before .before .args .first) (r .before .before .before .before .args .count) (r .before .before .loop .i)) ≡ r .row .result .words + wordsOf (left directory (r .before .before .before .before .args .first) (r .before .before .before .before .args .count) (r .before .before .loop .i + 1))
+passed : (r : tie.After-item-at Inv-loop μ-loop) → wordsOf (left directory (r .before .before .before .before .before .args .first) (r .before .before .before .before .before .args .count) (r .before .before .loop .i)) ≡ r .item-at .result .words + wordsOf (left directory (r .before .before .before .before .before .args .first) (r .before .before .before .before .before .args .count) (r .before .before .loop .i + 1))
 passed r =
-    let s = r .before .before .before .before in
-    rw (r .row .ensures) (words-on directory (s .args .first) (s .args .count) (r .before .before .loop .i) (omega arith) (s .pre .1 .0))
+    let s = r .before .before .before .before .before in
+    rw (item-is r) (words-on directory (s .args .first) (s .args .count) (r .before .before .loop .i) (omega arith) (s .pre .1 .1 .0))
 
 cast-put : tie.Need-cast-put Inv-loop μ-loop
 cast-put c = search needs
 
 shown-requires : tie.Need-shown-requires Inv-loop μ-loop
-shown-requires c κs = c .before .before .before .before .before .before .pre .0
+shown-requires c κs = c .before .before .before .before .before .before .before .pre .1 .0
 
 put-requires : tie.Need-put-requires Inv-loop μ-loop
 put-requires c κs =
     let r = c .before .before .before in
     let l = r .before .before .loop in
-    (omega (arith, passed r, l .inv .1, l .inv .2, r .before .before .before .before .pre .1 .1), (narrow r .some, narrow r .few))
+    (omega (arith, passed r, l .inv .1, l .inv .2, r .before .before .before .before .before .pre .1 .1 .1 .0, r .before .before .before .before .before .pre .1 .1 .1 .1), (narrow r .some, narrow r .few))
 
 cast-at : tie.Need-cast-at Inv-loop μ-loop
 cast-at c = search needs
@@ -73,7 +82,7 @@ add-at : tie.Need-add-at Inv-loop μ-loop
 add-at c =
     let r = c .before .before .before .before .before .before .before in
     let l = r .before .before .loop in
-    omega (arith, passed r, l .inv .2, r .before .before .before .before .pre .1 .1)
+    omega (arith, passed r, l .inv .2, r .before .before .before .before .before .pre .1 .1 .1 .0)
 
 add-i : tie.Need-add-i Inv-loop μ-loop
 add-i c = omega arith
@@ -86,11 +95,11 @@ loop-again c =
     let p = c .before .before .before in
     let r = p .before .before .before .before in
     let l = r .before .before .loop in
-    let s = r .before .before .before .before in
-    let it = r .row .result in
+    let s = r .before .before .before .before .before in
+    let it = r .item-at .result in
     let wrote : p .put .last .0 ≡ sets (l .buffer) (l .at) (sent (it .words) (shownOf (s .args .m) (it .quantity))) =
         p .put .ensures ∙ ap (λ (v : ℕ). sets (l .buffer) (l .at) (sent (it .words) v)) (p .before .shown .ensures) in
-    (omega arith, ap length wrote ∙ length-sets (l .buffer) (l .at) (sent (it .words) (shownOf (s .args .m) (it .quantity))) ∙ l .inv .1, omega (arith, passed r, l .inv .2), sent-on directory (s .args .first) (s .args .count) (l .i) (omega arith) (s .pre .1 .0) (s .args .m) (l .buffer) _ (l .at) it (r .row .ensures) wrote ∙ l .inv .3)
+    (omega arith, ap length wrote ∙ length-sets (l .buffer) (l .at) (sent (it .words) (shownOf (s .args .m) (it .quantity))) ∙ l .inv .1, omega (arith, passed r, l .inv .2), sent-on directory (s .args .first) (s .args .count) (l .i) (omega arith) (s .pre .1 .1 .0) (s .args .m) (l .buffer) _ (l .at) it (item-is r) wrote ∙ l .inv .3)
 
 same-length : tie.Need-same-length Inv-loop μ-loop
 same-length c = c .before .loop .inv .1
@@ -98,7 +107,7 @@ same-length c = c .before .loop .inv .1
 returns : tie.Need-returns Inv-loop μ-loop
 unfolding itemsSent wordsOf
 returns c =
-    let a = c .before .before .before .args in
+    let a = c .before .before .before .before .args in
     let l = c .before .loop in
     let none-left = left-none directory (a .first) (a .count) (l .i) (omega arith) in
     (omega (arith, l .inv .2, ap wordsOf none-left), sym (ap (λ (its : List Item). sets (l .buffer) (l .at) (itemsSent (a .m) its)) none-left) ∙ l .inv .3)
@@ -110,8 +119,8 @@ put-items-spec =
     Inv-loop
     μ-loop
     loop-holds
-    add-row
-    row-requires
+    add-item-at
+    item-at-requires
     cast-put
     shown-requires
     put-requires

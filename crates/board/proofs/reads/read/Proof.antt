@@ -1,71 +1,26 @@
--- Each judgement of a read has its reply.
-use mathlib.Core.Path.{_≡_}
-use mathlib.Core.List.{List}
-use Prim.Native.Nat.{ℕ}
-use lib.ListN.{length}
-use lib.Seq.{sets}
-use Rattle.directory.specs.declared.Span.{Span}
-use Rattle.directory.specs.declared.Span.the-variants.{Items, Error}
-use Rattle.directory.specs.Table.{directory}
-use Rattle.modbus.specs.Read.{readIn}
-use Rattle.meter.specs.declared.Meter.{Meter}
-use Rattle.board.specs.Reads.{readBytes, readReply}
+-- The flat table, read four numbers at a time, is the directory.
+use mathlib.Core.Path.{refl}
+use native.Mathlib.Omega.{arith}
 use borrow.Author.Needs.{needs}
+use Rattle.directory.specs.Item.{items}
+use Rattle.directory.specs.Table.{directory}
 use Rattle.board.proofs.reads.read.Statement.{statement}
 use Rattle.board.proofs.reads.read.Tie as tie
 
--- the reply of a judgement is the reply of the read that is judged so
-replied : (m : Meter) (frame buffer : List ℕ) (span : Span) {k : ℕ} {after : List ℕ} → readIn directory frame ≡ span → (k ≡ length (readBytes m frame span)) × (after ≡ sets buffer 0 (readBytes m frame span)) → (k ≡ length (readReply m frame)) × (after ≡ sets buffer 0 (readReply m frame))
-replied m frame buffer span e h = rw e h
+slice-aggregate-along : tie.Need-slice-aggregate-along
+slice-aggregate-along c = search needs
 
-read-requires : tie.Need-read-requires
-read-requires c κs = search needs
-
-enum-known-code : tie.Need-enum-known-code
-enum-known-code c = search needs
-
-put-error-requires : tie.Need-put-error-requires
-put-error-requires c κs = search needs
-
-enum-known-first : tie.Need-enum-known-first
-enum-known-first c = search needs
-
-put-data-requires : tie.Need-put-data-requires
-put-data-requires c κs =
-    let s = c .before .before .before .before .before .before .before in
-    let found : readIn directory (s .args .frame .now) ≡ Items (c .before .before .first .given .0 .0) (c .before .before .first .given .0 .1 .0) = cc in
-    (s .pre .0, (found, s .pre .1 .1))
+along-requires : tie.Need-along-requires
+unfolding directory items
+along-requires c κs =
+    let s = c .before .before .before .before in
+    ((omega arith, refl), s .pre)
 
 same-length : tie.Need-same-length
 same-length c = search needs
 
 returns : tie.Need-returns
-returns c =
-    let s = c .before .before .before .before .before .before .before .before .before .before in
-    let code = c .before .before .before .before .before .code .given .0 .0 in
-    let found : readIn directory (s .args .frame .now) ≡ Error code = cc in
-    replied (s .args .m) (s .args .frame .now) (s .args .buffer .now) (Error code) found (c .before .before .put-error .ensures)
-
-same-length-2 : tie.Need-same-length-2
-same-length-2 c = search needs
-
-returns-2 : tie.Need-returns-2
-returns-2 c =
-    let s = c .before .before .before .before .before .before .before .before .before .before in
-    let g = c .before .before .before .before .before .first .given .0 in
-    let found : readIn directory (s .args .frame .now) ≡ Items (g .0) (g .1 .0) = cc in
-    replied (s .args .m) (s .args .frame .now) (s .args .buffer .now) (Items (g .0) (g .1 .0)) found (c .before .before .put-data .ensures)
+returns c = search needs
 
 pub read-spec : {M : Type 1} → statement M
-read-spec =
-    tie.close
-    (tie.spec
-    read-requires
-    enum-known-code
-    put-error-requires
-    enum-known-first
-    put-data-requires
-    same-length
-    returns
-    same-length-2
-    returns-2)
+read-spec = tie.close (tie.spec slice-aggregate-along along-requires same-length returns)

@@ -3,8 +3,8 @@ use mathlib.Core.Path.{sym}
 use native.Mathlib.Omega.{arith}
 use lib.Seq.{length-take-le}
 use borrow.Author.Needs.{needs}
-use Rattle.vectors.proofs.frame.Statement.{statement}
-use Rattle.vectors.proofs.frame.Tie as tie
+use Rattle.vectors.proofs.frames.frame.Statement.{statement}
+use Rattle.vectors.proofs.frames.frame.Tie as tie
 
 returns : tie.Need-returns
 returns c = search needs

@@ -1,0 +1,91 @@
+-- A reply that is sent is a front of the buffer.
+use mathlib.Core.Path.{_≡_, sym}
+use Prim.Native.Nat.{_≤_}
+use native.Mathlib.Omega.{arith}
+use lib.ListN.{length, length-take}
+use lib.Seq.{length-take-le}
+use Rattle.board.specs.declared.Reply.the-variants.{Sent}
+use borrow.Author.Needs.{needs}
+use Rattle.bench.proofs.tell.Statement.{statement}
+use Rattle.bench.proofs.tell.Tie as tie
+
+within : (c : tie.After-did) → c .did .given .0 .0 ≤ length (c .before .before .before .args .reply .now)
+within c =
+    let s = c .before .before .before in
+    let sent : s .args .did ≡ Sent (c .did .given .0 .0) = cc in
+    s .pre .1 _ sent
+
+enum-told : tie.Need-enum-told
+enum-told c = search needs
+
+slice-aggregate-say : tie.Need-slice-aggregate-say
+slice-aggregate-say c = search needs
+
+say-requires : tie.Need-say-requires
+say-requires c κs = search needs
+
+enum-known-did : tie.Need-enum-known-did
+enum-known-did c = search needs
+
+slice-aggregate-send : tie.Need-slice-aggregate-send
+slice-aggregate-send c = sym (length-take-le _ _ (within (c .before .before)))
+
+send-requires : tie.Need-send-requires
+send-requires c κs =
+    let s = c .before .before .before .before .before in
+    omega (arith, length-take (c .before .before .did .given .0 .0) (s .args .reply .now), s .pre .0)
+
+enum-known-did-2 : tie.Need-enum-known-did-2
+enum-known-did-2 c = search needs
+
+slice-aggregate-say-2 : tie.Need-slice-aggregate-say-2
+slice-aggregate-say-2 c = search needs
+
+say-requires-2 : tie.Need-say-requires-2
+say-requires-2 c κs = search needs
+
+number-requires : tie.Need-number-requires
+number-requires c κs = search needs
+
+cast-print-decimal : tie.Need-cast-print-decimal
+cast-print-decimal c = search needs
+
+print-decimal-requires : tie.Need-print-decimal-requires
+print-decimal-requires c κs = search needs
+
+slice-aggregate-say-3 : tie.Need-slice-aggregate-say-3
+slice-aggregate-say-3 c = search needs
+
+say-requires-3 : tie.Need-say-requires-3
+say-requires-3 c κs = search needs
+
+returns : tie.Need-returns
+returns c = search needs
+
+returns-2 : tie.Need-returns-2
+returns-2 c = search needs
+
+returns-3 : tie.Need-returns-3
+returns-3 c = search needs
+
+pub tell-spec : {M : Type 1} → statement M
+tell-spec =
+    tie.close
+    (tie.spec
+    enum-told
+    slice-aggregate-say
+    say-requires
+    enum-known-did
+    slice-aggregate-send
+    send-requires
+    enum-known-did-2
+    slice-aggregate-say-2
+    say-requires-2
+    number-requires
+    cast-print-decimal
+    print-decimal-requires
+    slice-aggregate-say-3
+    say-requires-3
+    returns
+    returns-2
+    returns-3)
