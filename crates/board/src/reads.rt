@@ -82,7 +82,12 @@ fn put_items(t: &[u16], m: Meter, first: usize, count: usize, buffer: &mut [u8])
     let mut i: usize = 0;
     while i < count {
         let it = directory::item_at(t, first + i);
-        words::put(buffer, at, it.words as usize, registers::shown(m, it.quantity));
+        words::put(
+            buffer,
+            at,
+            it.words as usize,
+            registers::shown(m, it.quantity),
+        );
         at += 2 * it.words as usize;
         i += 1;
     }

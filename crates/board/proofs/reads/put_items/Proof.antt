@@ -98,7 +98,7 @@ loop-again c =
     let s = r .before .before .before .before .before in
     let it = r .item-at .result in
     let wrote : p .put .last .0 ≡ sets (l .buffer) (l .at) (sent (it .words) (shownOf (s .args .m) (it .quantity))) =
-        p .put .ensures ∙ ap (λ (v : ℕ). sets (l .buffer) (l .at) (sent (it .words) v)) (p .before .shown .ensures) in
+    p .put .ensures ∙ ap (λ (v : ℕ). sets (l .buffer) (l .at) (sent (it .words) v)) (p .before .shown .ensures) in
     (omega arith, ap length wrote ∙ length-sets (l .buffer) (l .at) (sent (it .words) (shownOf (s .args .m) (it .quantity))) ∙ l .inv .1, omega (arith, passed r, l .inv .2), sent-on directory (s .args .first) (s .args .count) (l .i) (omega arith) (s .pre .1 .1 .0) (s .args .m) (l .buffer) _ (l .at) it (item-is r) wrote ∙ l .inv .3)
 
 same-length : tie.Need-same-length Inv-loop μ-loop
