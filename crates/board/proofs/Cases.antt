@@ -55,7 +55,7 @@ module _ (m : Meter) (frame buffer : List ℕ) where
   obeys-write w = rw (write-only w, w) refl
 
   -- for all meters, and for this one
-  pub to-all : (bytes : List ℕ) (n : Meter) → addressOf frame ≡ 0 → silentOf n buffer ≡ replyOf frame bytes n buffer
+  to-all : (bytes : List ℕ) (n : Meter) → addressOf frame ≡ 0 → silentOf n buffer ≡ replyOf frame bytes n buffer
   to-all bytes n z = rw (eq-eqb (addressOf frame) 0 z) refl
 
   to-one : (bytes : List ℕ) (n : Meter) → (addressOf frame ≡ 0 → ⊥) → (k : ℕ) (after : List ℕ) → k ≡ length bytes → after ≡ sets buffer 0 bytes → record { handled = record { reply = Sent k; meter = n }; buffer = after } ≡ replyOf frame bytes n buffer

@@ -23,7 +23,8 @@ use Rattle.directory.proofs.Sends.{run-sends}
 use Rattle.modbus.specs.declared.Verdict.the-variants.{Wrong}
 use Rattle.modbus.specs.Frame.{addressOf, functionOf, numberOf}
 use Rattle.modbus.specs.Replies.{errorReply, echoReply, dataReply}
-use Rattle.modbus.proofs.Frames.{asks, shaped-length}
+use Rattle.modbus.proofs.Frames.{shaped-length}
+use Rattle.modbus.proofs.Judged.{asks}
 use Rattle.modbus.proofs.Stores.{sets-front}
 use Rattle.meter.specs.declared.Meter.{Meter}
 use Rattle.board.specs.declared.Reply.the-variants.{Sent}

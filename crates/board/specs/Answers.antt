@@ -41,10 +41,11 @@ pub record Answers (m : Meter) (frame buffer : List ℕ) : Type 0 where
 abbrev pub Errs : ErrorCode → Meter → List ℕ → List ℕ → Type 0
 Errs code m frame buffer = boardOf m frame buffer ≡ sentOf (errorReply frame code) m buffer
 
--- a read, or a write, that an error code is due to
+-- a read that an error code is due to
 abbrev pub ReadErrs : ErrorCode → List ℕ → Type 0
 ReadErrs code frame = (isRead frame ≡ true) × (readIn directory frame ≡ Error code)
 
+-- a write that an error code is due to
 abbrev pub WriteErrs : ErrorCode → Meter → List ℕ → Type 0
 WriteErrs code m frame = (isWrite frame ≡ true) × (writtenOf m frame .verdict ≡ Wrong code)
 

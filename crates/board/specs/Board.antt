@@ -38,24 +38,31 @@ sentOf bytes m buffer = record { handled = record { reply = Sent (length bytes);
 abbrev pub replyOf : List ℕ → List ℕ → Meter → List ℕ → Outcome
 replyOf frame bytes m buffer = cond (eqb (addressOf frame) 0) (silentOf m buffer) (sentOf bytes m buffer)
 
--- function 0x03, function 0x10
+-- function 0x03
 abbrev pub isRead : List ℕ → Bool
 isRead frame = eqb (functionOf frame) 0x03
 
+-- function 0x10
 abbrev pub isWrite : List ℕ → Bool
 isWrite frame = eqb (functionOf frame) 0x10
 
--- 3. Function neither 0x03 nor 0x10: error 01. 4. 0x03: a read. 5. 0x10: a write; only a stored one alters the record
+-- what is done with a frame that the meter heeds: steps 3 to 5
 abbrev pub obeyedOf : Meter → List ℕ → List ℕ → Outcome
 obeyedOf m frame buffer =
+    -- 3. Function neither 0x03 nor 0x10: error 01
     cond (not (isRead frame) && not (isWrite frame)) (replyOf frame (errorReply frame Function) m buffer)
+    -- 4. 0x03: error 03 or 02, else data
     (cond (isRead frame) (replyOf frame (readReply m frame) m buffer)
+    -- 5. 0x10: error 03 or 02, else the group is stored and echoed. Only a stored write alters the record
     (replyOf frame (writeReply frame (writtenOf m frame .verdict)) (writtenOf m frame .meter) buffer))
 
--- 1. Record out of limits: refusal 1. Reply buffer under 256 bytes: refusal 2. 2. Silence. 3 to 5. as above
+-- what the meter does with a frame: the first that applies
 unfoldable pub boardOf : Meter → List ℕ → List ℕ → Outcome
 boardOf m frame buffer =
+    -- 1. Record out of limits: refusal 1. Reply buffer under 256 bytes: refusal 2
     cond (not (meterOk m)) (refusedOf MeterOutOfLimits m buffer)
     (cond (ltb (length buffer) 256) (refusedOf BufferShort m buffer)
+    -- 2. Silence
     (cond (silence (m .address) frame) (silentOf m buffer)
+    -- 3. to 5.
     (obeyedOf m frame buffer)))

@@ -1,17 +1,16 @@
 -- The tests of a frame, by what the code finds first.
-use mathlib.Core.Path.{_≡_, refl, sym, _∙_}
+use mathlib.Core.Path.{_≡_, refl, sym}
 use mathlib.Core.Bool.{Bool, true, false, _&&_, _||_, not, false≢true, and-eq-true-iff}
 use mathlib.Core.List.{List}
 use Prim.Native.Nat.{ℕ, _*_, _+_, _≤_, _<_}
 use native.Mathlib.Omega.{arith}
 use lib.Dec.{leb, ltb, eqb}
 use lib.ListN.{length}
-use borrow.Author.Tests.{lt-ltb, le-ltb, ltb-false, leb-false, eqb-true, not-true, not-false}
-use Rattle.refusal.specs.declared.ErrorCode.{ErrorCode}
+use borrow.Author.Tests.{lt-ltb, le-ltb, ltb-false, leb-false, eqb-true, not-true}
 use Rattle.refusal.specs.declared.ErrorCode.the-variants.{Data}
 use Rattle.crc.specs.Crc.{intact}
 use Rattle.directory.specs.declared.Item.{Item}
-use Rattle.directory.specs.declared.Span.the-variants.{Items, Error}
+use Rattle.directory.specs.declared.Span.the-variants.{Error}
 use Rattle.directory.specs.Run.{runIn}
 use Rattle.modbus.specs.Frame.{addressOf, functionOf, startOf, numberOf, bytesOf, silence, writeShaped}
 use Rattle.modbus.specs.Read.{numberWrong, readIn}
@@ -39,7 +38,7 @@ second : (a b c d : Bool) → a ≡ false → c ≡ false → d ≡ false → b 
 second a true c d f g h = rw f refl
 second a false c d f g h = rw (f, g, h) refl
 
-neither : (a b : Bool) → (a || b) ≡ false → (a ≡ false) × (b ≡ false)
+pub neither : (a b : Bool) → (a || b) ≡ false → (a ≡ false) × (b ≡ false)
 neither true b h = absurd (false≢true (sym h))
 neither false b h = (refl, h)
 
@@ -69,12 +68,9 @@ module _ (own : ℕ) (frame : List ℕ) where
   pub long-enough : misfit ≡ false → 4 ≤ length frame
   long-enough h = ltb-false (length frame) 4 (neither (ltb (length frame) 4) (ltb 256 (length frame)) h .0)
 
-  -- a frame that no rule of silence holds of
+  -- of a frame that no rule of silence holds of: what its reply needs
   pub record Heeded : Type 0 where
     pub least : 4 ≤ length frame
-    pub most : length frame ≤ 256
-    pub whole : intact frame ≡ true
-    pub mine : foreign ≡ false
     pub low : functionOf frame < 0x80
 
   pub heeded : silence own frame ≡ false → Heeded
@@ -83,14 +79,7 @@ module _ (own : ℕ) (frame : List ℕ) where
       let f = neither (misfit || not (intact frame) || foreign) (leb 0x80 (functionOf frame)) h in
       let e = neither (misfit || not (intact frame)) foreign (f .0) in
       let d = neither misfit (not (intact frame)) (e .0) in
-      let l = neither (ltb (length frame) 4) (ltb 256 (length frame)) (d .0) in
-      record {
-        least = ltb-false (length frame) 4 (l .0);
-        most = ltb-false 256 (length frame) (l .1);
-        whole = not-false (intact frame) (d .1);
-        mine = e .1;
-        low = leb-false 0x80 (functionOf frame) (f .1);
-      }
+      record { least = long-enough (d .0); low = leb-false 0x80 (functionOf frame) (f .1) }
 
   pub shape-short : length frame < 9 → false ≡ writeShaped frame
   unfolding writeShaped
@@ -111,10 +100,6 @@ module _ (own : ℕ) (frame : List ℕ) where
       let long : length frame ≡ 9 + bytesOf frame = eqb-true _ _ (u .1) in
       (ltb-false (length frame) 9 (not-true _ (t .0)), omega arith)
 
--- an error is no data
-no-data : {A : Type 0} {code : ErrorCode} {first count : ℕ} → Error code ≡ Items first count → A
-no-data e = let z : _≡_ {A = ℕ} 0 1 = cc in let y : ⊥ = omega arith in absurd y
-
 -- a read, test by test
 module _ (dir : List Item) (frame : List ℕ) where
   pub read-length : eqb (length frame) 8 ≡ false → Error Data ≡ readIn dir frame
@@ -128,20 +113,3 @@ module _ (dir : List Item) (frame : List ℕ) where
   pub read-run : eqb (length frame) 8 ≡ true → numberWrong (numberOf frame) ≡ false → runIn dir (startOf frame) (numberOf frame) ≡ readIn dir frame
   unfolding readIn
   read-run h k = rw (h, k) refl
-
-  -- a read that is answered with data
-  pub record Asks (first count : ℕ) : Type 0 where
-    pub long : length frame ≡ 8
-    pub some : 1 ≤ numberOf frame
-    pub most : numberOf frame ≤ 120
-    pub run : runIn dir (startOf frame) (numberOf frame) ≡ Items first count
-
-  pub asks : (first count : ℕ) → readIn dir frame ≡ Items first count → Asks first count
-  asks first count e = by (eqb (length frame) 8) (numberWrong (numberOf frame)) refl refl
-    where
-      by : (l w : Bool) → eqb (length frame) 8 ≡ l → numberWrong (numberOf frame) ≡ w → Asks first count
-      by false w h k = no-data (read-length h ∙ e)
-      by true true h k = no-data (read-number h k ∙ e)
-      by true false h k =
-          let n = neither (ltb (numberOf frame) 1) (ltb 120 (numberOf frame)) k in
-          record { long = eqb-true _ _ h; some = ltb-false _ _ (n .0); most = ltb-false _ _ (n .1); run = read-run h k ∙ e }

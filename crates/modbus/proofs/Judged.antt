@@ -3,11 +3,11 @@ use mathlib.Core.Path.{_≡_, refl, sym}
 use mathlib.Core.Logic.{_↔_, _⊎_, inl, inr}
 use mathlib.Core.Bool.{Bool, true, false, not, cond, false≢true}
 use mathlib.Core.List.{List}
-use Prim.Native.Nat.{ℕ}
+use Prim.Native.Nat.{ℕ, _≤_}
 use native.Mathlib.Omega.{arith}
-use lib.Dec.{eqb}
+use lib.Dec.{ltb, eqb}
 use lib.ListN.{length}
-use borrow.Author.Tests.{eqb-true, eqb-false, eq-eqb, ne-eqb}
+use borrow.Author.Tests.{ltb-false, eqb-true, eqb-false, eq-eqb, ne-eqb}
 use Rattle.refusal.specs.declared.ErrorCode.the-variants.{Function, Address, Data}
 use Rattle.directory.specs.declared.Item.{Item}
 use Rattle.directory.specs.declared.Span.{Span}
@@ -16,6 +16,7 @@ use Rattle.directory.specs.Run.{runIn}
 use Rattle.directory.proofs.Errors.{run-sound}
 use Rattle.modbus.specs.Frame.{startOf, numberOf}
 use Rattle.modbus.specs.Read.{numberWrong, readIn, ReadWhen}
+use Rattle.modbus.proofs.Frames.{neither}
 
 -- the judgement by its tests: t for the length, w for the word number
 abbrev judged : Bool → Bool → Span → Span
@@ -85,3 +86,15 @@ read-when =
       items = λ dir frame first count. ran dir frame (Items first count) (λ e. no-data e);
       never = λ dir frame h. run-sound dir (startOf frame) (numberOf frame) (ran dir frame (Error Function) (λ e. data-function e) .0 h .2);
     }
+
+-- a read that is answered with data: its length, the most words it asks for, and its run
+pub record Asks (dir : List Item) (frame : List ℕ) (first count : ℕ) : Type 0 where
+  pub long : length frame ≡ 8
+  pub most : numberOf frame ≤ 120
+  pub run : runIn dir (startOf frame) (numberOf frame) ≡ Items first count
+
+pub asks : (dir : List Item) (frame : List ℕ) (first count : ℕ) → readIn dir frame ≡ Items first count → Asks dir frame first count
+asks dir frame first count e =
+    let t = read-when .items dir frame first count .0 e in
+    let n = neither (ltb (numberOf frame) 1) (ltb 120 (numberOf frame)) (t .1) in
+    record { long = t .0; most = ltb-false 120 (numberOf frame) (n .1); run = t .2 }

@@ -8,20 +8,23 @@ use lib.ListN.{length, getD}
 use Rattle.crc.specs.Crc.{intact}
 use Rattle.words.specs.Words.{wordAt}
 
--- address, function
+-- the device address
 abbrev pub addressOf : List ℕ → ℕ
 addressOf frame = getD frame 0 0
 
+-- the functional code
 abbrev pub functionOf : List ℕ → ℕ
 functionOf frame = getD frame 1 0
 
--- start, word number; of a write, byte number
+-- the first word's address
 abbrev pub startOf : List ℕ → ℕ
 startOf frame = wordAt frame 2
 
+-- the word number
 abbrev pub numberOf : List ℕ → ℕ
 numberOf frame = wordAt frame 4
 
+-- of a write: the byte number
 abbrev pub bytesOf : List ℕ → ℕ
 bytesOf frame = getD frame 6 0
 

@@ -18,11 +18,13 @@ use Rattle.modbus.specs.Frame.{startOf, numberOf}
 abbrev pub numberWrong : ℕ → Bool
 numberWrong n = ltb n 1 || ltb 120 n
 
--- 4. Length not 8, or word number outside 1 to 120: error 03. Else the run decides (start, item by item, half an L)
+-- step 4: how a read is judged over a directory
 unfoldable pub readIn : List Item → List ℕ → Span
 readIn dir frame =
+    -- length not 8, or word number outside 1 to 120: error 03
     cond (not (eqb (length frame) 8)) (Error Data)
     (cond (numberWrong (numberOf frame)) (Error Data)
+    -- start, and the run item by item: error 02, or 03 for half an L; else data
     (runIn dir (startOf frame) (numberOf frame)))
 
 -- STATEMENT: of a read, error 02 and error 03 are due exactly when, and it is answered with data exactly when neither is; error 01 never is

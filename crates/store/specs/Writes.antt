@@ -40,15 +40,18 @@ storedOf m frame =
 abbrev pub wrongOf : Meter → ErrorCode → Written
 wrongOf m code = record { verdict = Wrong code; meter = m }
 
--- 5. Word number 0, byte number not twice the word number, or length not 9 plus byte number: error 03. Start neither 0x2000
--- nor 0x2200: error 02. Word number not 16, or 24, for that group: error 03. A value out of range: error 03. Else the group is
--- stored
+-- step 5: how a write is judged, and the record after it
 unfoldable pub writtenOf : Meter → List ℕ → Written
 writtenOf m frame =
+    -- word number 0, byte number not twice the word number, or length not 9 plus byte number: error 03
     cond (not (writeShaped frame)) (wrongOf m Data)
+    -- start neither 0x2000 nor 0x2200: error 02
     (cond (not (toStandard frame) && not (toOutput frame)) (wrongOf m Address)
+    -- word number not 16, or 24, for that group: error 03
     (cond (not (eqb (numberOf frame) (groupWords frame))) (wrongOf m Data)
+    -- a value out of range: error 03
     (cond (not (groupOk (startOf frame) (valuesOf frame))) (wrongOf m Data)
+    -- else the group is stored
     (record { verdict = Good; meter = storedOf m frame }))))
 
 -- and address, function, start and word number are echoed
@@ -56,10 +59,11 @@ abbrev pub writeReply : List ℕ → Verdict → List ℕ
 writeReply frame (Wrong code) = errorReply frame code
 writeReply frame Good = echoReply frame
 
--- the write goes to a group; its words are that group's, and each value is in range
+-- the write goes to a group
 abbrev pub toGroup : List ℕ → Bool
 toGroup frame = toStandard frame || toOutput frame
 
+-- its words are that group's, and each value is in range
 abbrev pub fits : List ℕ → Bool
 fits frame = eqb (numberOf frame) (groupWords frame) && groupOk (startOf frame) (valuesOf frame)
 

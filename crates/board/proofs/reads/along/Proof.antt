@@ -3,14 +3,12 @@ use mathlib.Core.Path.{_≡_, ap, _∙_}
 use mathlib.Core.List.{List}
 use Prim.Native.Nat.{ℕ}
 use native.Mathlib.Omega.{arith}
-use lib.Dec.{T}
 use lib.ListN.{length, take}
 use lib.Seq.{sets, take-all}
 use Rattle.directory.specs.declared.Span.{Span}
 use Rattle.directory.specs.declared.Span.the-variants.{Items, Error}
 use Rattle.directory.specs.declared.Item.{Item}
 use Rattle.directory.specs.Item.{items}
-use Rattle.directory.specs.Order.{ruled}
 use Rattle.directory.specs.Table.{directory}
 use Rattle.directory.proofs.Rules.{directory-ruled, directory-rules}
 use Rattle.modbus.specs.Read.{readIn}

@@ -12,7 +12,7 @@ use Rattle.directory.specs.Run.{runItems, wordsOf}
 use Rattle.directory.proofs.Rules.{directory-ruled}
 use Rattle.directory.proofs.Sends.{run-sends}
 use Rattle.modbus.specs.Frame.{addressOf, functionOf, numberOf}
-use Rattle.modbus.proofs.Frames.{Asks, asks}
+use Rattle.modbus.proofs.Judged.{Asks, asks}
 use Rattle.modbus.proofs.Stores.{seals, length-sealed}
 use Rattle.board.specs.Reads.{itemsSent, readBytes}
 use Rattle.board.proofs.Sent.{length-items}
