@@ -30,7 +30,7 @@ pub(crate) fn read(m: Meter, frame: &[u8], buffer: &mut [u8]) -> usize
     along(&table::TABLE, m, frame, buffer)
 }
 
-// The same with the table lent: to name the constant is to lay it out anew.
+// The same with the table lent, four numbers for each of its 142 items: to name the constant is to lay it out anew.
 fn along(t: &[u16], m: Meter, frame: &[u8], buffer: &mut [u8]) -> usize
     requires { ⌜ (568 ≤ length (now t)) × (items (now t) ≡ directory) ⌝ }
     requires { ⌜ meterOk m ≡ true ⌝ }
