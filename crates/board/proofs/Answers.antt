@@ -15,7 +15,7 @@ use Rattle.refusal.specs.declared.ErrorCode.the-variants.{Function, Address, Da
 use Rattle.refusal.specs.Numbers.{refusalNumber, errorNumber}
 use Rattle.crc.specs.Crc.{intact}
 use Rattle.directory.specs.Table.{directory}
-use Rattle.modbus.specs.Frame.{addressOf, silence}
+use Rattle.modbus.specs.Frame.{addressOf, silence, isRead, isWrite}
 use Rattle.modbus.specs.Replies.{errorReply}
 use Rattle.modbus.proofs.Judged.{read-when}
 use Rattle.meter.specs.declared.Meter.{Meter}
@@ -23,7 +23,7 @@ use Rattle.meter.specs.Meters.{meterOk}
 use Rattle.board.specs.declared.Reply.{Reply}
 use Rattle.board.specs.declared.Reply.the-variants.{Silent, Sent, Refused}
 use Rattle.store.specs.Writes.{storedOf}
-use Rattle.board.specs.Board.{Outcome, isRead, isWrite, boardOf}
+use Rattle.board.specs.Board.{Outcome, boardOf}
 use Rattle.board.specs.Answers.{Heeds, Answers, Errs, ReadErrs, WriteErrs, Stores, ExactlyWhen, Obeys, Untouched, FrameWithin, RepliesSealed, BufferUnseen, Determined}
 use Rattle.board.proofs.Cases.{board-1, board-2, board-silent}
 use Rattle.store.proofs.Verdicts.{write-when, write-within}

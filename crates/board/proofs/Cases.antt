@@ -10,7 +10,7 @@ use borrow.Author.Tests.{eq-eqb, ne-eqb, eqb-true}
 use Rattle.refusal.specs.declared.Refusal.the-variants.{MeterOutOfLimits, BufferShort}
 use Rattle.refusal.specs.declared.ErrorCode.the-variants.{Function}
 use Rattle.modbus.specs.declared.Verdict.{Verdict}
-use Rattle.modbus.specs.Frame.{addressOf, functionOf, silence}
+use Rattle.modbus.specs.Frame.{addressOf, functionOf, silence, isRead, isWrite}
 use Rattle.modbus.specs.Replies.{errorReply}
 use Rattle.meter.specs.declared.Meter.{Meter}
 use Rattle.meter.specs.Meters.{meterOk}
@@ -18,7 +18,7 @@ use Rattle.board.specs.declared.Reply.the-variants.{Sent}
 use Rattle.store.specs.declared.Written.{Written}
 use Rattle.board.specs.Reads.{readReply}
 use Rattle.store.specs.Writes.{writtenOf, writeReply}
-use Rattle.board.specs.Board.{Outcome, refusedOf, silentOf, replyOf, isRead, isWrite, obeyedOf, boardOf}
+use Rattle.board.specs.Board.{Outcome, refusedOf, silentOf, replyOf, obeyedOf, boardOf}
 
 -- the two parts that a contract speaks of
 pub parts : {x y : Outcome} → x ≡ y → (x .handled ≡ y .handled) × (x .buffer ≡ y .buffer)

@@ -21,7 +21,7 @@ use Rattle.directory.specs.Run.{runItems}
 use Rattle.directory.proofs.Rules.{directory-ruled}
 use Rattle.directory.proofs.Sends.{run-sends}
 use Rattle.modbus.specs.declared.Verdict.the-variants.{Wrong}
-use Rattle.modbus.specs.Frame.{addressOf, functionOf, numberOf}
+use Rattle.modbus.specs.Frame.{addressOf, functionOf, numberOf, isRead, isWrite}
 use Rattle.modbus.specs.Replies.{errorReply, echoReply, dataReply}
 use Rattle.modbus.proofs.Frames.{shaped-length}
 use Rattle.modbus.proofs.Judged.{asks}
@@ -29,7 +29,7 @@ use Rattle.modbus.proofs.Stores.{sets-front}
 use Rattle.meter.specs.declared.Meter.{Meter}
 use Rattle.board.specs.declared.Reply.the-variants.{Sent}
 use Rattle.board.specs.Reads.{itemsSent, readBytes}
-use Rattle.board.specs.Board.{Outcome, silentOf, sentOf, replyOf, isRead, isWrite, obeyedOf, boardOf}
+use Rattle.board.specs.Board.{Outcome, silentOf, sentOf, replyOf, obeyedOf, boardOf}
 use Rattle.board.specs.Answers.{Heeds, Answers, ReadErrs, WriteErrs}
 use Rattle.board.proofs.Sent.{length-items}
 use Rattle.board.proofs.Cases.{board-obeys, obeys-other, obeys-read, obeys-write}

@@ -15,7 +15,7 @@ use Rattle.directory.specs.declared.Span.the-variants.{Items, Error}
 use Rattle.directory.specs.Table.{directory}
 use Rattle.directory.specs.Run.{runItems}
 use Rattle.modbus.specs.declared.Verdict.the-variants.{Good, Wrong}
-use Rattle.modbus.specs.Frame.{addressOf, silence}
+use Rattle.modbus.specs.Frame.{addressOf, silence, isRead, isWrite}
 use Rattle.modbus.specs.Read.{readIn}
 use Rattle.modbus.specs.Replies.{errorReply, echoReply, dataReply}
 use Rattle.meter.specs.declared.Meter.{Meter}
@@ -24,7 +24,7 @@ use Rattle.board.specs.declared.Reply.the-variants.{Silent, Sent, Refuse
 use Rattle.board.specs.declared.Handled.{Handled}
 use Rattle.board.specs.Reads.{itemsSent}
 use Rattle.store.specs.Writes.{storedOf, writtenOf}
-use Rattle.board.specs.Board.{silentOf, sentOf, isRead, isWrite, boardOf}
+use Rattle.board.specs.Board.{silentOf, sentOf, boardOf}
 
 -- the meter heeds a frame: steps 1 and 2 are passed
 pub record Heeds (m : Meter) (frame buffer : List ℕ) : Type 0 where

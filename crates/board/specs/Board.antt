@@ -8,7 +8,7 @@ use lib.Seq.{sets}
 use Rattle.refusal.specs.declared.Refusal.{Refusal}
 use Rattle.refusal.specs.declared.Refusal.the-variants.{MeterOutOfLimits, BufferShort}
 use Rattle.refusal.specs.declared.ErrorCode.the-variants.{Function}
-use Rattle.modbus.specs.Frame.{addressOf, functionOf, silence}
+use Rattle.modbus.specs.Frame.{addressOf, silence, isRead, isWrite}
 use Rattle.modbus.specs.Replies.{errorReply}
 use Rattle.meter.specs.declared.Meter.{Meter}
 use Rattle.meter.specs.Meters.{meterOk}
@@ -37,14 +37,6 @@ sentOf bytes m buffer = record { handled = record { reply = Sent (length bytes);
 -- address 0: silence is kept always
 abbrev pub replyOf : List ℕ → List ℕ → Meter → List ℕ → Outcome
 replyOf frame bytes m buffer = cond (eqb (addressOf frame) 0) (silentOf m buffer) (sentOf bytes m buffer)
-
--- function 0x03
-abbrev pub isRead : List ℕ → Bool
-isRead frame = eqb (functionOf frame) 0x03
-
--- function 0x10
-abbrev pub isWrite : List ℕ → Bool
-isWrite frame = eqb (functionOf frame) 0x10
 
 -- what is done with a frame that the meter heeds: steps 3 to 5
 abbrev pub obeyedOf : Meter → List ℕ → List ℕ → Outcome

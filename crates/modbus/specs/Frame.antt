@@ -16,6 +16,14 @@ addressOf frame = getD frame 0 0
 abbrev pub functionOf : List ℕ → ℕ
 functionOf frame = getD frame 1 0
 
+-- function 0x03
+abbrev pub isRead : List ℕ → Bool
+isRead frame = eqb (functionOf frame) 0x03
+
+-- function 0x10
+abbrev pub isWrite : List ℕ → Bool
+isWrite frame = eqb (functionOf frame) 0x10
+
 -- the first word's address
 abbrev pub startOf : List ℕ → ℕ
 startOf frame = wordAt frame 2

@@ -7,12 +7,10 @@ ghost use lib.ListN.{length, take};
 ghost use lib.Seq.{sets};
 ghost use Rattle.directory.specs.Item.{items};
 ghost use Rattle.directory.specs.Order.{ruled};
-ghost use Rattle.directory.specs.Table.{directory};
 ghost use Rattle.modbus.specs.Frame.{functionOf, silence, writeShaped, wordsAt};
 ghost use Rattle.modbus.specs.Read.{readIn};
 ghost use Rattle.modbus.specs.Replies.{errorReply, echoReply};
 use directory::Span;
-use directory::table;
 use refusal::ErrorCode;
 
 pub const READ: u8 = 0x03;
@@ -62,14 +60,7 @@ pub fn silence(own: u8, frame: &[u8]) -> bool
     !crc::intact(frame)
 }
 
-// How a read is judged over the meter's directory: the items it asks for, or what is wrong with it.
-pub fn read(frame: &[u8]) -> Span
-    ensures { λ r. ⌜ r ≡ readIn directory (now (frame .entry)) ⌝ }
-{
-    read_in(&table::TABLE, directory::ITEMS, frame)
-}
-
-// The same over the first n items of any table.
+// How a read is judged over the first n items of a table: the items it asks for, or what is wrong with it.
 pub fn read_in(t: &[u16], n: usize, frame: &[u8]) -> Span
     requires { ⌜ (4 * n ≤ length (now t)) × T (ruled (items (now t))) ⌝ }
     ensures { λ r. ⌜ r ≡ readIn (take n (items (now (t .entry)))) (now (frame .entry)) ⌝ }

@@ -1,0 +1,90 @@
+-- Paper 01, "Collector": a request, the reply to it, KTA, KTV and an item index in; the answer out, in the paper's reading order:
+-- 3, 7 to 11, the error code, 12, 13.
+use Prim.Native.Nat.{ℕ, _+_, _*_}
+use mathlib.Core.Bool.{Bool, _&&_, _||_, not, cond}
+use mathlib.Core.List.{List}
+use lib.Dec.{leb, ltb, eqb}
+use lib.ListN.{length, getD, take}
+use Rattle.refusal.specs.declared.Refusal.the-variants.{RatioOutOfLimits, NotARead, ReplyLength, ReplyCrc, ReplyForeign, ReplyMisfit, IndexPastItems}
+use Rattle.refusal.specs.declared.ErrorCode.the-variants.{Function, Address, Data}
+use Rattle.crc.specs.Crc.{intact}
+use Rattle.words.specs.Words.{valueAt}
+use Rattle.ratio.specs.declared.Ratios.{Ratios}
+use Rattle.ratio.specs.Ratios.{ratiosOk, tOf}
+use Rattle.directory.specs.declared.Item.{Item}
+use Rattle.directory.specs.declared.Span.{Span}
+use Rattle.directory.specs.declared.Span.the-variants as span
+use Rattle.directory.specs.Item.{none}
+use Rattle.directory.specs.Table.{directory}
+use Rattle.directory.specs.Run.{runItems, wordsOf}
+use Rattle.modbus.specs.Frame.{addressOf, functionOf, isRead, numberOf, silence}
+use Rattle.modbus.specs.Read.{readIn}
+use Rattle.reading.specs.declared.Answer.{Answer}
+use Rattle.reading.specs.declared.Answer.the-variants.{Error, Refused}
+use Rattle.reading.specs.Readings.{readingOf}
+
+-- a meter of that own address, 1 to 255, hears the request, and as a read
+unfoldable pub heard : List ℕ → Bool
+heard request = not (eqb (addressOf request) 0) && (isRead request && not (silence (addressOf request) request))
+
+-- 7. request is not a read that a meter of that own address, 1 to 255, answers with data; else the items that it asks for
+abbrev pub onItems : Span → (List Item → Answer) → Answer
+onItems (span.Error code) go = Refused NotARead
+onItems (span.Items first count) go = go (runItems directory first count)
+
+-- 8. reply under 5 or over 256 bytes
+abbrev pub lengthWrong : List ℕ → Bool
+lengthWrong reply = ltb (length reply) 5 || ltb 256 (length reply)
+
+-- function 0x83
+abbrev pub isReadError : List ℕ → Bool
+isReadError reply = eqb (functionOf reply) 0x83
+
+-- 10. reply address differs, or function neither 0x03 nor 0x83
+abbrev pub foreign : List ℕ → List ℕ → Bool
+foreign request reply = not (eqb (addressOf reply) (addressOf request)) || (not (isRead reply) && not (isReadError reply))
+
+-- behind address and function: of an error reply the code, of data the byte number
+abbrev pub thirdOf : List ℕ → ℕ
+thirdOf reply = getD reply 2 0
+
+-- the error code of a number; 11: code not 1 to 3
+abbrev pub codeOf : ℕ → Answer
+codeOf n = cond (eqb n 1) (Error Function) (cond (eqb n 2) (Error Address) (cond (eqb n 3) (Error Data) (Refused ReplyMisfit)))
+
+-- 11, of 0x83: length not 5, or the code not one; else the error code is given
+unfoldable pub errorOf : List ℕ → Answer
+errorOf reply = cond (not (eqb (length reply) 5)) (Refused ReplyMisfit) (codeOf (thirdOf reply))
+
+-- 11, of 0x03: byte number not twice the words asked, or length not 5 plus it
+abbrev pub misfit : List ℕ → List ℕ → Bool
+misfit request reply = not (eqb (thirdOf reply) (2 * numberOf request)) || not (eqb (length reply) (5 + thirdOf reply))
+
+-- where an item's words stand: behind address, function and byte number, and behind the words of the items before it
+abbrev pub placeOf : List Item → ℕ → ℕ
+placeOf its index = 3 + 2 * wordsOf (take index its)
+
+-- 12. index not below the number of items. 13 or the reading, of the item asked alone
+unfoldable pub itemOf : ℕ → List Item → List ℕ → ℕ → Answer
+itemOf t its reply index =
+    cond (not (ltb index (length its))) (Refused IndexPastItems)
+    (readingOf t (getD its index none) (valueAt (getD its index none .words) reply (placeOf its index)))
+
+-- what a reply says to a read of some items, told T
+unfoldable pub replyOf : ℕ → List ℕ → List ℕ → List Item → ℕ → Answer
+replyOf t request reply its index =
+    cond (lengthWrong reply) (Refused ReplyLength)
+    -- 9. reply CRC wrong
+    (cond (not (intact reply)) (Refused ReplyCrc)
+    (cond (foreign request reply) (Refused ReplyForeign)
+    (cond (isReadError reply) (errorOf reply)
+    (cond (misfit request reply) (Refused ReplyMisfit)
+    (itemOf t its reply index)))))
+
+-- what the collector gives: the first that applies
+unfoldable pub collectorOf : List ℕ → List ℕ → Ratios → ℕ → Answer
+collectorOf request reply r index =
+    -- 3. KTA or KTV out of limits
+    cond (not (ratiosOk r)) (Refused RatioOutOfLimits)
+    (cond (not (heard request)) (Refused NotARead)
+    (onItems (readIn directory request) (λ its. replyOf (tOf r) request reply its index)))

@@ -1,0 +1,161 @@
+// The collector: a request and the reply to it in, one reading out (paper 01, "Collector"). It goes by the meter's directory
+// and by what it was told of the ratios, and knows nothing of the meter.
+ghost use mathlib.Core.Path.{_≡_};
+ghost use mathlib.Core.Bool.{true};
+ghost use Prim.Native.Nat.{_+_, _*_, _≤_};
+ghost use lib.ListN.{length, take, drop};
+ghost use Rattle.directory.specs.declared.Span.the-variants.{Items};
+ghost use Rattle.directory.specs.Item.{items};
+ghost use Rattle.directory.specs.Table.{directory};
+ghost use Rattle.directory.specs.Run.{runItems, wordsOf};
+ghost use Rattle.modbus.specs.Read.{readIn};
+ghost use Rattle.collector.specs.Collector.{heard, onItems, errorOf, itemOf, replyOf, collectorOf};
+use directory::Span;
+use directory::table;
+use ratio::Ratios;
+use reading::Answer;
+use refusal::ErrorCode;
+use refusal::Refusal;
+
+// The function of an error reply to a read.
+const READ_ERROR: u8 = modbus::READ + modbus::ERROR;
+
+// Before the data of a reply: address, function and byte number. Behind it the CRC.
+const HEAD: usize = 3;
+
+const REPLY_LEAST: usize = 5;
+
+// What one item of a reply says, told the ratios of the meter asked.
+pub fn read(request: &[u8], reply: &[u8], ratios: Ratios, index: usize) -> Answer
+    ensures { λ r. ⌜ r ≡ collectorOf (now (request .entry)) (now (reply .entry)) ratios index ⌝ }
+{
+    if !ratios.within() {
+        return Answer::Refused(Refusal::RatioOutOfLimits);
+    }
+    if !heard(request) {
+        return Answer::Refused(Refusal::NotARead);
+    }
+    along(
+        &table::TABLE,
+        request,
+        reply,
+        ratios.tenths(),
+        index,
+    )
+}
+
+// Whether the meter that a request names hears a read in it.
+fn heard(request: &[u8]) -> bool
+    ensures { λ r. ⌜ r ≡ heard (now (request .entry)) ⌝ }
+{
+    if request.len() < modbus::FRAME_LEAST {
+        return false;
+    }
+    let own = request[0];
+    if (own == modbus::BROADCAST) | (request[1] != modbus::READ) {
+        return false;
+    }
+    !modbus::silence(own, request)
+}
+
+// The rest with the table lent, four numbers for each of its 142 items: to name the constant is to lay it out anew.
+fn along(t: &[u16], request: &[u8], reply: &[u8], tenths: u32, index: usize) -> Answer
+    requires { ⌜ (568 ≤ length (now t)) × (items (now t) ≡ directory) ⌝ }
+    requires { ⌜ heard (now request) ≡ true ⌝ }
+    ensures { λ r. ⌜ r ≡ onItems (readIn directory (now (request .entry))) (λ its. replyOf tenths (now (request .entry)) (now (reply .entry)) its index) ⌝ }
+{
+    let span = modbus::read_in(t, directory::ITEMS, request);
+    let Span::Items { first, count } = span else {
+        return Answer::Refused(Refusal::NotARead);
+    };
+    replied(t, request, reply, tenths, first, count, index)
+}
+
+// What a reply says to a read of `count` items from the index `first` on.
+fn replied(
+    t: &[u16],
+    request: &[u8],
+    reply: &[u8],
+    tenths: u32,
+    first: usize,
+    count: usize,
+    index: usize,
+) -> Answer
+    requires { ⌜ (568 ≤ length (now t)) × (items (now t) ≡ directory) ⌝ }
+    requires { ⌜ readIn directory (now request) ≡ Items first count ⌝ }
+    ensures { λ r. ⌜ r ≡ replyOf tenths (now (request .entry)) (now (reply .entry)) (runItems directory first count) index ⌝ }
+{
+    let n = reply.len();
+    if (n < REPLY_LEAST) | (modbus::FRAME_MOST < n) {
+        return Answer::Refused(Refusal::ReplyLength);
+    }
+    if !crc::intact(reply) {
+        return Answer::Refused(Refusal::ReplyCrc);
+    }
+    let function = reply[1];
+    if (reply[0] != request[0]) | ((function != modbus::READ) & (function != READ_ERROR)) {
+        return Answer::Refused(Refusal::ReplyForeign);
+    }
+    if function == READ_ERROR {
+        return error(reply);
+    }
+    let bytes = reply[2] as usize;
+    if (bytes != 2 * words::word_at(request, 4) as usize) | (n != REPLY_LEAST + bytes) {
+        return Answer::Refused(Refusal::ReplyMisfit);
+    }
+    item(t, reply, tenths, first, count, index)
+}
+
+// The meter's error code.
+fn error(reply: &[u8]) -> Answer
+    requires { ⌜ 5 ≤ length (now reply) ⌝ }
+    ensures { λ r. ⌜ r ≡ errorOf (now (reply .entry)) ⌝ }
+{
+    if reply.len() != REPLY_LEAST {
+        return Answer::Refused(Refusal::ReplyMisfit);
+    }
+    let code = reply[2];
+    match code {
+        1 => Answer::Error(ErrorCode::Function),
+        2 => Answer::Error(ErrorCode::Address),
+        3 => Answer::Error(ErrorCode::Data),
+        _ => Answer::Refused(Refusal::ReplyMisfit),
+    }
+}
+
+// One item of the data.
+fn item(t: &[u16], reply: &[u8], tenths: u32, first: usize, count: usize, index: usize) -> Answer
+    requires { ⌜ (568 ≤ length (now t)) × (items (now t) ≡ directory) ⌝ }
+    requires { ⌜ first + count ≤ length directory ⌝ }
+    requires { ⌜ 3 + 2 * wordsOf (runItems directory first count) ≤ length (now reply) ⌝ }
+    ensures { λ r. ⌜ r ≡ itemOf tenths (runItems directory first count) (now (reply .entry)) index ⌝ }
+{
+    if count <= index {
+        return Answer::Refused(Refusal::IndexPastItems);
+    }
+    let at = place(t, first, index);
+    let it = directory::item_at(t, first + index);
+    if it.words == 2 {
+        let value = words::value_at(reply, at, 2);
+        return reading::long(tenths, it.quantity, value);
+    }
+    let byte = (it.start < 0x1000) & (it.fills == 1);
+    let value = words::word_at(reply, at);
+    reading::word(it.quantity, byte, value)
+}
+
+// Where the words of the item stand that comes after `index` others.
+fn place(t: &[u16], first: usize, index: usize) -> usize
+    requires { ⌜ (568 ≤ length (now t)) × (items (now t) ≡ directory) ⌝ }
+    requires { ⌜ first + index ≤ length directory ⌝ }
+    ensures { λ r. ⌜ r ≡ 3 + 2 * wordsOf (take index (drop first directory)) ⌝ }
+{
+    let mut at = HEAD;
+    let mut i: usize = 0;
+    while i < index {
+        let it = directory::item_at(t, first + i);
+        at += 2 * it.words as usize;
+        i += 1;
+    }
+    at
+}
