@@ -1,0 +1,95 @@
+-- What each quantity of a meter's record is as a reading (paper 01, "Steps of the registers" and "Collector"): said of the record, with
+-- no register between. The kinds and, within a kind, the quantities stand in the order of the directory's `Quantity`.
+use mathlib.Core.Path.{_≡_}
+use Prim.Native.Nat.{ℕ, _*_, _/_, _%_, _<_}
+use mathlib.Core.Bool.{true, _&&_}
+use mathlib.Core.List.{List, [], _∷_, _++_, map}
+use lib.Dec.{ltb}
+use lib.ListN.{length, getD}
+use Rattle.signed.specs.declared.Signed.{Signed}
+use Rattle.ratio.specs.Powers.{powerUnit, powerRegister, signWord}
+use Rattle.ratio.specs.Energies.{stepOf, registerOf, wrapOf, lowOf, highOf, energyOf}
+use Rattle.directory.specs.Item.{none}
+use Rattle.directory.specs.Table.{directory}
+use Rattle.meter.specs.declared.energies.Energy.{Energy}
+use Rattle.meter.specs.declared.Meter.{Meter}
+use Rattle.meter.specs.Samples.{factorOf}
+use Rattle.meter.specs.Meters.{meterT, meterOk}
+use Rattle.meter.specs.Histories.{energiesOf}
+use Rattle.registers.specs.Shown.{powersOf, plainValues, shownOf}
+use Rattle.registers.specs.Cases.{Typed}
+use Rattle.reading.specs.declared.Quantity.{Quantity}
+use Rattle.reading.specs.declared.Quantity.the-variants as read
+use Rattle.reading.specs.declared.Answer.the-variants.{Reading}
+use Rattle.reading.specs.Readings.{times, readingOf}
+
+-- a power in hundredths, rounded down to the unit of its register
+abbrev pub roundedPower : ℕ → ℕ → ℕ
+roundedPower t x = powerRegister t x * powerUnit t
+
+-- a signed value in units of n, cut toward zero; a zero has no sign
+abbrev pub cut : ℕ → Signed → Signed
+cut n s = record { negative = s .negative && ltb 0 (s .magnitude / n); magnitude = s .magnitude / n }
+
+-- P, Q and S in hundredths, as their registers have them; S at 0x1530 in whole VA
+unfoldable pub powerMeanings : Meter → List Quantity
+powerMeanings m =
+    map (λ (p : Signed). read.Power (roundedPower (meterT m) (p .magnitude))) (powersOf (m .latest)) ++
+    (read.Power (roundedPower (meterT m) (m .latest .s)) ∷ read.Power (m .latest .s / 100 * 100) ∷ [])
+
+-- signed power in whole units
+unfoldable pub signedMeanings : Meter → List Quantity
+signedMeanings m = map (λ (p : Signed). read.SignedPower (cut 100 p)) (powersOf (m .latest))
+
+-- energy count with step and Wh
+unfoldable pub countMeanings : Meter → List Quantity
+countMeanings m =
+    map (λ (e : Energy). read.Energy (registerOf (meterT m) (e .wh)) (stepOf (meterT m)) (energyOf (meterT m) (registerOf (meterT m) (e .wh) .0))) (energiesOf m)
+
+-- Low, High, wrap
+unfoldable pub lowMeanings : Meter → List Quantity
+lowMeanings m = map (λ (e : Energy). read.Low (lowOf (e .wh))) (energiesOf m)
+
+unfoldable pub highMeanings : Meter → List Quantity
+highMeanings m = map (λ (e : Energy). read.High (highOf (e .wh))) (energiesOf m)
+
+unfoldable pub wrapMeanings : Meter → List Quantity
+wrapMeanings m = map (λ (e : Energy). read.Wrap (wrapOf (meterT m) (e .wh))) (energiesOf m)
+
+-- factor in thousandths: from the register in hundredths, and from the one in thousandths
+unfoldable pub factorMeanings : Signed → List Quantity
+factorMeanings f = read.Factor (times 10 (cut 10 f)) ∷ read.Factor (cut 1 f) ∷ []
+
+-- sign
+unfoldable pub signMeanings : Meter → List Quantity
+signMeanings m = map (λ (p : Signed). read.Sign (signWord (p .negative))) (powersOf (m .latest))
+
+-- kind by kind in the order of paper 01's list of readings, from kind 1 on
+abbrev pub meanings : Meter → List (List Quantity)
+meanings m =
+    [] ∷
+    map (λ (v : ℕ). read.Voltage v) (m .latest .voltages) ∷
+    map (λ (v : ℕ). read.Current v) (m .latest .currents) ∷
+    powerMeanings m ∷
+    signedMeanings m ∷
+    countMeanings m ∷
+    lowMeanings m ∷
+    highMeanings m ∷
+    wrapMeanings m ∷
+    factorMeanings (factorOf (m .latest .factor)) ∷
+    signMeanings m ∷
+    (read.Sector (m .latest .sector) ∷ []) ∷
+    (read.Frequency (m .latest .frequency) ∷ []) ∷
+    (read.Kta (m .ratios .kta) ∷ []) ∷
+    (read.Ktv (m .ratios .ktv) ∷ []) ∷
+    (read.Sequence (m .latest .sequence) ∷ []) ∷
+    map (λ (v : ℕ). read.Plain v) (plainValues m) ∷
+    []
+
+-- the reading of a quantity
+unfoldable pub meaningOf : Meter → ℕ → Quantity
+meaningOf m q = getD (getD (meanings m) (q / 64) []) (q % 64) (read.Plain 0)
+
+-- STATEMENT: what a meter within limits shows of an item is read, at its ratios, as just that
+pub record ShownIsRead : Type 0 where
+  pub items : (m : Meter) → Typed m → meterOk m ≡ true → (i : ℕ) → i < length directory → readingOf (meterT m) (getD directory i none) (shownOf m (getD directory i none .quantity)) ≡ Reading (meaningOf m (getD directory i none .quantity))
