@@ -1,7 +1,6 @@
 // The collector: a request and the reply to it in, one reading out (paper 01, "Collector"). It goes by the meter's directory
 // and by what it was told of the ratios, and knows nothing of the meter.
 ghost use mathlib.Core.Path.{_≡_};
-ghost use mathlib.Core.Bool.{true};
 ghost use Prim.Native.Nat.{_+_, _*_, _≤_};
 ghost use lib.ListN.{length, take, drop};
 ghost use Rattle.directory.specs.declared.Span.the-variants.{Items};
@@ -61,7 +60,6 @@ fn heard(request: &[u8]) -> bool
 // The rest with the table lent, four numbers for each of its 142 items: to name the constant is to lay it out anew.
 fn along(t: &[u16], request: &[u8], reply: &[u8], tenths: u32, index: usize) -> Answer
     requires { ⌜ (568 ≤ length (now t)) × (items (now t) ≡ directory) ⌝ }
-    requires { ⌜ heard (now request) ≡ true ⌝ }
     ensures { λ r. ⌜ r ≡ onItems (readIn directory (now (request .entry))) (λ its. replyOf tenths (now (request .entry)) (now (reply .entry)) its index) ⌝ }
 {
     let span = modbus::read_in(t, directory::ITEMS, request);

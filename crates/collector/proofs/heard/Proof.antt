@@ -1,0 +1,43 @@
+-- The length is tested for the two bytes that are looked at; the rest is the definition's.
+use mathlib.Core.Path.{_≡_, refl, sym, ap, _∙_}
+use native.Mathlib.Omega.{arith}
+use lib.Dec.{ltb}
+use lib.ListN.{length}
+use borrow.Author.Tests.{lt-ltb}
+use Rattle.modbus.specs.Frame.{addressOf, silence}
+use Rattle.modbus.proofs.Frames.{by-length}
+use Rattle.collector.proofs.Requests.{heard-silent, heard-other, heard-read}
+use borrow.Author.Needs.{needs}
+use Rattle.collector.proofs.heard.Statement.{statement}
+use Rattle.collector.proofs.heard.Tie as tie
+
+returns : tie.Need-returns
+returns c =
+    let f = c .before .before .args .request .now in
+    heard-silent f (sym (by-length (addressOf f) f (simp (lt-ltb (length f) 4 (omega arith)))))
+
+shared-slice-read-own : tie.Need-shared-slice-read-own
+shared-slice-read-own c = search needs
+
+shared-slice-read-if2 : tie.Need-shared-slice-read-if2
+shared-slice-read-if2 c = search needs
+
+returns-2 : tie.Need-returns-2
+returns-2 c = heard-other (c .before .before .before .before .before .args .request .now) (c .if2 .taken)
+
+silence-requires : tie.Need-silence-requires
+silence-requires c κs = search needs
+
+returns-3 : tie.Need-returns-3
+returns-3 c = rw (c .silence .ensures) (heard-read (c .before .before .before .before .before .before .args .request .now) (c .before .if2 .left))
+
+pub heard-spec : {M : Type 1} → statement M
+heard-spec =
+    tie.close
+    (tie.spec
+    returns
+    shared-slice-read-own
+    shared-slice-read-if2
+    returns-2
+    silence-requires
+    returns-3)

@@ -1,0 +1,131 @@
+-- The tests are the definition's own, in its order. A read that is answered with data has eight bytes, and its run sends the words asked.
+use mathlib.Core.Path.{_≡_, refl, sym, ap, _∙_}
+use native.Mathlib.Omega.{arith}
+use mathlib.Core.List.{List}
+use mathlib.Core.Bool.{true, false, not, _||_}
+use Prim.Native.Nat.{ℕ, _≤_}
+use lib.Dec.{ltb, eqb}
+use lib.ListN.{length}
+use borrow.Author.Tests.{not-true, not-false, eq-eqb, ne-eqb, eqb-true, ltb-false}
+use Rattle.crc.specs.Crc.{intact}
+use Rattle.directory.specs.Table.{directory}
+use Rattle.directory.specs.Run.{runItems}
+use Rattle.directory.proofs.Rules.{directory-ruled}
+use Rattle.directory.proofs.Sends.{run-sends}
+use Rattle.modbus.specs.Frame.{startOf, numberOf}
+use Rattle.modbus.proofs.Frames.{neither}
+use Rattle.modbus.proofs.Judged.{Asks, asks}
+use Rattle.collector.proofs.Judged.{length-refused, crc-refused, foreign-refused, error-given, misfit-refused, item-given, misfit-read, fitting}
+use borrow.Author.Needs.{needs}
+use Rattle.collector.proofs.replied.Statement.{statement}
+use Rattle.collector.proofs.replied.Tie as tie
+
+-- the bytes that are looked at are there
+long : (reply : List ℕ) → (ltb (length reply) 5 || ltb 256 (length reply)) ≡ false → 5 ≤ length reply
+long reply h = ltb-false (length reply) 5 (neither (ltb (length reply) 5) (ltb 256 (length reply)) h .0)
+
+asked : (s : tie.Start) → Asks directory (s .args .request .now) (s .args .first) (s .args .count)
+asked s = asks directory (s .args .request .now) (s .args .first) (s .args .count) (s .pre .1)
+
+returns : tie.Need-returns
+returns c =
+    let a = c .before .before .before .before .args in
+    length-refused (a .tenths) (a .request .now) (a .reply .now) (runItems directory (a .first) (a .count)) (a .index)
+    (c .if1 .taken)
+
+intact-requires : tie.Need-intact-requires
+intact-requires c κs = search needs
+
+returns-2 : tie.Need-returns-2
+returns-2 c =
+    let a = c .before .before .before .before .before .before .args in
+    crc-refused (a .tenths) (a .request .now) (a .reply .now) (runItems directory (a .first) (a .count)) (a .index)
+    (c .before .before .if1 .left) (sym (c .before .intact .ensures) ∙ not-true _ (c .if2 .taken))
+
+shared-slice-read-function : tie.Need-shared-slice-read-function
+shared-slice-read-function c = omega (arith, long (c .before .before .before .before .before .before .before .args .reply .now) (c .before .before .before .if1 .left))
+
+shared-slice-read-if3 : tie.Need-shared-slice-read-if3
+shared-slice-read-if3 c = omega (arith, long (c .before .before .before .before .before .before .before .before .args .reply .now) (c .before .before .before .before .if1 .left))
+
+shared-slice-read-if3-2 : tie.Need-shared-slice-read-if3-2
+shared-slice-read-if3-2 c = omega (arith, asked (c .before .before .before .before .before .before .before .before .before) .long)
+
+returns-3 : tie.Need-returns-3
+returns-3 c =
+    let a = c .before .before .before .before .before .before .before .before .before .before .args in
+    foreign-refused (a .tenths) (a .request .now) (a .reply .now) (runItems directory (a .first) (a .count)) (a .index)
+    (c .before .before .before .before .before .before .if1 .left) (sym (c .before .before .before .before .before .intact .ensures) ∙ not-false _ (c .before .before .before .before .if2 .left)) (c .if3 .taken)
+
+error-requires : tie.Need-error-requires
+error-requires c κs = long (c .before .before .before .before .before .before .before .before .before .before .before .args .reply .now) (c .before .before .before .before .before .before .before .if1 .left)
+
+returns-4 : tie.Need-returns-4
+returns-4 c =
+    let a = c .before .before .before .before .before .before .before .before .before .before .before .before .args in
+    c .error .ensures
+    ∙ error-given (a .tenths) (a .request .now) (a .reply .now) (runItems directory (a .first) (a .count)) (a .index)
+    (c .before .before .before .before .before .before .before .before .if1 .left) (sym (c .before .before .before .before .before .before .before .intact .ensures) ∙ not-false _ (c .before .before .before .before .before .before .if2 .left)) (c .before .before .if3 .left) (eq-eqb _ _ (c .before .if4 .taken))
+
+shared-slice-read-bytes : tie.Need-shared-slice-read-bytes
+shared-slice-read-bytes c = omega (arith, long (c .before .before .before .before .before .before .before .before .before .before .before .before .args .reply .now) (c .before .before .before .before .before .before .before .before .if1 .left))
+
+cast-bytes : tie.Need-cast-bytes
+cast-bytes c = omega (arith, c .shared-slice-known7 .given 2)
+
+word-at-requires : tie.Need-word-at-requires
+word-at-requires c κs = omega (arith, asked (c .before .before .before .before .before .before .before .before .before .before .before .before) .long)
+
+cast-if5 : tie.Need-cast-if5
+cast-if5 c = search needs
+
+mul-if5 : tie.Need-mul-if5
+mul-if5 c = search needs
+
+add-if5 : tie.Need-add-if5
+add-if5 c = omega (arith, c .before .shared-slice-known7 .given 2)
+
+returns-5 : tie.Need-returns-5
+returns-5 c =
+    let a = c .before .before .before .before .before .before .before .before .before .before .before .before .before .before .args in
+    misfit-refused (a .tenths) (a .request .now) (a .reply .now) (runItems directory (a .first) (a .count)) (a .index)
+    (c .before .before .before .before .before .before .before .before .before .before .if1 .left) (sym (c .before .before .before .before .before .before .before .before .before .intact .ensures) ∙ not-false _ (c .before .before .before .before .before .before .before .before .if2 .left)) (c .before .before .before .before .if3 .left) (ne-eqb _ _ (c .before .before .before .if4 .left)) (misfit-read (a .request .now) (a .reply .now) _ true (c .before .word-at .ensures) (c .if5 .taken))
+
+item-requires : tie.Need-item-requires
+item-requires c κs =
+    let s = c .before .before .before .before .before .before .before .before .before .before .before .before .before .before in
+    let a = s .args in
+    let q = asked s in
+    let fits = fitting (a .request .now) (a .reply .now) (misfit-read (a .request .now) (a .reply .now) _ false (c .before .word-at .ensures) (c .if5 .left)) in
+    let sends = run-sends .sends directory (startOf (a .request .now)) (numberOf (a .request .now)) (a .first) (a .count) directory-ruled (q .run) in
+    (s .pre .0, (run-sends .inside directory (startOf (a .request .now)) (numberOf (a .request .now)) (a .first) (a .count) directory-ruled (q .run), omega (arith, fits, sends)))
+
+returns-6 : tie.Need-returns-6
+returns-6 c =
+    let a = c .before .before .before .before .before .before .before .before .before .before .before .before .before .before .before .args in
+    c .item .ensures
+    ∙ item-given (a .tenths) (a .request .now) (a .reply .now) (runItems directory (a .first) (a .count)) (a .index)
+    (c .before .before .before .before .before .before .before .before .before .before .before .if1 .left) (sym (c .before .before .before .before .before .before .before .before .before .before .intact .ensures) ∙ not-false _ (c .before .before .before .before .before .before .before .before .before .if2 .left)) (c .before .before .before .before .before .if3 .left) (ne-eqb _ _ (c .before .before .before .before .if4 .left)) (misfit-read (a .request .now) (a .reply .now) _ false (c .before .before .word-at .ensures) (c .before .if5 .left))
+
+pub replied-spec : {M : Type 1} → statement M
+replied-spec =
+    tie.close
+    (tie.spec
+    returns
+    intact-requires
+    returns-2
+    shared-slice-read-function
+    shared-slice-read-if3
+    shared-slice-read-if3-2
+    returns-3
+    error-requires
+    returns-4
+    shared-slice-read-bytes
+    cast-bytes
+    word-at-requires
+    cast-if5
+    mul-if5
+    add-if5
+    returns-5
+    item-requires
+    returns-6)
