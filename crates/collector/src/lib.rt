@@ -11,10 +11,18 @@ ghost use Rattle.modbus.specs.Read.{readIn};
 ghost use Rattle.collector.specs.Collector.{heard, onItems, errorOf, itemOf, replyOf, collectorOf};
 use directory::Span;
 use directory::table;
-use ratio::Ratios;
-use reading::Answer;
 use refusal::ErrorCode;
 use refusal::Refusal;
+
+// The whole face stands here: beside `read` its answers, and the joins with their refusals.
+pub use ratio::Count;
+pub use ratio::Joined;
+pub use ratio::Ratios;
+pub use ratio::WattHours;
+pub use ratio::join;
+pub use ratio::join_halves;
+pub use reading::Answer;
+pub use reading::Quantity;
 
 // The function of an error reply to a read.
 const READ_ERROR: u8 = modbus::READ + modbus::ERROR;

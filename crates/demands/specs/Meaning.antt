@@ -58,7 +58,7 @@ wrapMeanings m = map (λ (e : Energy). read.Wrap (wrapOf (meterT m) (e .wh))) (e
 
 -- factor in thousandths: from the register in hundredths, and from the one in thousandths
 unfoldable pub factorMeanings : Signed → List Quantity
-factorMeanings f = read.Factor (times 10 (cut 10 f)) ∷ read.Factor (cut 1 f) ∷ []
+factorMeanings f = read.Factor (times 10 (cut 10 f)) ∷ read.Factor f ∷ []
 
 -- sign
 unfoldable pub signMeanings : Meter → List Quantity

@@ -2,7 +2,8 @@
 use mathlib.Core.Path.{_≡_}
 use mathlib.Core.Logic.{_↔_}
 use Prim.Native.Nat.{ℕ, _/_, _<_}
-use mathlib.Core.Bool.{Bool, true, _&&_, _||_, not, cond}
+use mathlib.Core.Bool.{Bool, true, false, _&&_, _||_, not, cond}
+use mathlib.Core.List.{List, [], _∷_}
 use lib.Dec.{leb, ltb, eqb}
 use lib.ListN.{length, getD}
 use Rattle.words.specs.Signed.{magnitudeIn}
@@ -20,23 +21,29 @@ use Rattle.reading.specs.Readings.{impossible, isB, readingOf}
 abbrev pub isKind : ℕ → Item → Bool
 isKind k it = eqb (it .quantity / 64) k
 
+-- one of some tests holds
+unfoldable pub oneOf : List Bool → Bool
+oneOf [] = false
+oneOf (test ∷ tests) = test || oneOf tests
+
 -- the row, in its words
 unfoldable pub thirteen : Item → ℕ → Bool
-thirteen it v =
+thirteen it v = oneOf (
     -- B with upper byte set; sign over 1; sector over 2; sequence not 1 or 2
-    (isB it && leb 256 v) ||
-    (isKind 10 it && ltb 1 v) ||
-    (isKind 11 it && ltb 2 v) ||
-    (isKind 15 it && not (eqb v 1 || eqb v 2)) ||
+    (isB it && leb 256 v) ∷
+    (isKind 10 it && ltb 1 v) ∷
+    (isKind 11 it && ltb 2 v) ∷
+    (isKind 15 it && not (eqb v 1 || eqb v 2)) ∷
     -- energy register over 99,999,999; Low over 999,999; High over 65,535,999
-    (isKind 5 it && ltb 99999999 v) ||
-    (isKind 6 it && ltb 999999 v) ||
-    (isKind 7 it && ltb 65535999 v) ||
+    (isKind 5 it && ltb 99999999 v) ∷
+    (isKind 6 it && ltb 999999 v) ∷
+    (isKind 7 it && ltb 65535999 v) ∷
     -- factor beyond 100 hundredths (one word) or 1,000 thousandths (two) in magnitude
-    (isKind 9 it && cond (isL it) (ltb 1000 (magnitudeIn 2 v)) (ltb 100 (magnitudeIn 1 v))) ||
+    (isKind 9 it && cond (isL it) (ltb 1000 (magnitudeIn 2 v)) (ltb 100 (magnitudeIn 1 v))) ∷
     -- KTA or KTV item out of limits
-    (isKind 13 it && not (leb 1 v && leb v 9999)) ||
-    (isKind 14 it && not (leb 10 v && leb v 9999))
+    (isKind 13 it && not (leb 1 v && leb v 9999)) ∷
+    (isKind 14 it && not (leb 10 v && leb v 9999)) ∷
+    [])
 
 -- STATEMENT: an item of the directory is refused with 13 exactly when its value is in the row; else its reading is of its quantity's kind
 pub record Thirteen : Type 0 where
