@@ -29,7 +29,7 @@ use Rattle.reading.proofs.ByKind.{Each, each-at}
 abbrev pub wide : Item → Bool
 wide it =
     cond (isL it)
-    (not (isB it) && (leb 1 (it .quantity / 64) && leb (it .quantity / 64) 9))
+    (not (isB it) && (not (eqb (it .quantity / 64) 8) && (leb 1 (it .quantity / 64) && leb (it .quantity / 64) 9)))
     (leb 8 (it .quantity / 64) && leb (it .quantity / 64) 16)
 
 directory-wide : T (every wide directory)
@@ -132,3 +132,91 @@ module _ (b : Bool) (v : ℕ) where
   short-rows =
       let u = upper (b && leb 256 v) in
       (u _ _ (reads-always (Wrap v)), (u _ _ (reads-when (leb (magnitudeIn 1 v) 100) _ (Factor (times 10 (signedIn 1 v))) (over (magnitudeIn 1 v) 100)), (u _ _ (reads-when (leb v 1) _ (Sign v) (over v 1)), (u _ _ (reads-when (leb v 2) _ (Sector v) (over v 2)), (u _ _ (reads-always (Frequency v)), (u _ _ (reads-when (leb 1 v && leb v 9999) _ (Kta v) (or-none _)), (u _ _ (reads-when (leb 10 v && leb v 9999) _ (Ktv v) (or-none _)), (u _ _ (reads-when (leb 1 v && leb v 2) _ (Sequence v) (or-none _ ∙ ap not (one-or-two v))), (u _ _ (reads-always (Plain v)), tt)))))))))
+
+-- ---- an item
+
+same-when : {a b : Answer} {x y : Bool} → a ≡ b → x ≡ y → RefusedWhen b y → RefusedWhen a x
+same-when e f h = rw (e, f) h
+
+passed : (x : Bool) → T x → x ≡ true
+passed true h = refl
+passed false h = absurd h
+
+module _ (t : ℕ) (it : Item) (v : ℕ) where
+  abbrev k : ℕ
+  k = it .quantity / 64
+
+  as-row : (b l : Bool) → isB it ≡ b → isL it ≡ l → thirteen it v ≡ row k b l v
+  unfolding thirteen
+  as-row b l e f = rw (sym e, sym f) refl
+
+  long-when : isL it ≡ true → (not (isB it) && (not (eqb k 8) && (leb 1 k && leb k 9))) ≡ true → RefusedWhen (readingOf t it v) (thirteen it v)
+  unfolding longOf
+  long-when two h =
+      let a = and-eq-true-iff (not (isB it)) _ .0 h in
+      let b = and-eq-true-iff (not (eqb k 8)) _ .0 (a .1) in
+      let c = and-eq-true-iff (leb 1 k) (leb k 9) .0 (b .1) in
+      same-when (ap (λ (l : Bool). cond l (longOf t (it .quantity) v) (wordOf (it .quantity) (isB it) v)) two) (as-row false true (not-true _ (a .0)) two)
+      (each-at (LongRow t (it .quantity % 64) v) 1 9 k (long-rows t (it .quantity % 64) v) (leb-true 1 k (c .0)) (omega (arith, leb-true k 9 (c .1))) (eqb-false k 8 (not-true _ (b .0))))
+
+  word-when : isL it ≡ false → (leb 8 k && leb k 16) ≡ true → RefusedWhen (readingOf t it v) (thirteen it v)
+  unfolding wordOf
+  word-when one h =
+      let c = and-eq-true-iff (leb 8 k) (leb k 16) .0 h in
+      same-when (ap (λ (l : Bool). cond l (longOf t (it .quantity) v) (wordOf (it .quantity) (isB it) v)) one) (as-row (isB it) false refl one)
+      (each-at (ShortRow (isB it) v) 8 9 k (short-rows (isB it) v) (leb-true 8 k (c .0)) (omega (arith, leb-true k 16 (c .1))))
+
+  refused-when : T (wide it) → RefusedWhen (readingOf t it v) (thirteen it v)
+  refused-when h = by (isL it) refl (passed _ h)
+    where
+      by : (l : Bool) → isL it ≡ l → wide it ≡ true → RefusedWhen (readingOf t it v) (thirteen it v)
+      by true e w = long-when e (sym (ap (λ (l : Bool). cond l (not (isB it) && (not (eqb k 8) && (leb 1 k && leb k 9))) (leb 8 k && leb k 16)) e) ∙ w)
+      by false e w = word-when e (sym (ap (λ (l : Bool). cond l (not (isB it) && (not (eqb k 8) && (leb 1 k && leb k 9))) (leb 8 k && leb k 16)) e) ∙ w)
+
+-- ---- each reading is of the kind it stands at
+
+-- an answer reads nothing but kind k
+abbrev Reads : ℕ → Answer → Type 0
+Reads k a = (q : Quantity) → a ≡ Reading q → kindOf q ≡ k
+
+reads-kind : (x : Quantity) → Reads (kindOf x) (Reading x)
+reads-kind x q h = sym (ap (λ (a : Answer). getD (told a) 1 0) h)
+
+reads-if : (possible : Bool) (x : Quantity) → Reads (kindOf x) (when possible x)
+reads-if true x q h = reads-kind x q h
+reads-if false x q h = absurd (never q (sym h))
+
+reads-none : (k : ℕ) → Reads k impossible
+reads-none k q h = absurd (never q (sym h))
+
+abbrev Numbered : ℕ → List Answer → Type 0
+Numbered k [] = Unit
+Numbered k (a ∷ l) = Reads k a × Numbered (suc k) l
+
+numbered-at : (k : ℕ) (l : List Answer) → Numbered k l → (i : ℕ) → Reads (i + k) (getD l i impossible)
+numbered-at k [] h i q e = reads-none (i + k) q e
+numbered-at k (a ∷ l) h zero q e = h .0 q e ∙ omega arith
+numbered-at k (a ∷ l) h (suc i) q e = numbered-at (suc k) l (h .1) i q e ∙ omega arith
+
+long-numbers : (t w v : ℕ) → Numbered 0 (longs t w v)
+long-numbers t w v =
+    (reads-none 0, (reads-kind _, (reads-kind _, (reads-kind _, (reads-kind _, (reads-if (leb v 99999999) (counted t v), (reads-if (leb v 999999) (Low v), (reads-if (leb v 65535999) (High v), (reads-none 8, (reads-if (leb (magnitudeIn 2 v) 1000) (Factor (signedIn 2 v)), tt))))))))))
+
+short-numbers : (v : ℕ) → Numbered 0 (shorts v)
+short-numbers v =
+    (reads-none 0, (reads-none 1, (reads-none 2, (reads-none 3, (reads-none 4, (reads-none 5, (reads-none 6, (reads-none 7, (reads-kind _, (reads-if (leb (magnitudeIn 1 v) 100) (Factor (times 10 (signedIn 1 v))), (reads-if (leb v 1) (Sign v), (reads-if (leb v 2) (Sector v), (reads-kind _, (reads-if (leb 1 v && leb v 9999) (Kta v), (reads-if (leb 10 v && leb v 9999) (Ktv v), (reads-if (leb 1 v && leb v 2) (Sequence v), (reads-kind _, tt)))))))))))))))))
+
+reads-item : (t : ℕ) (it : Item) (v : ℕ) → Reads (it .quantity / 64) (readingOf t it v)
+unfolding longOf wordOf
+reads-item t it v = by (isL it) (isB it && leb 256 v)
+  where
+    by : (l u : Bool) → Reads (it .quantity / 64) (cond l (getD (longs t (it .quantity % 64) v) (it .quantity / 64) impossible) (cond u impossible (getD (shorts v) (it .quantity / 64) impossible)))
+    by true u q h = numbered-at 0 (longs t (it .quantity % 64) v) (long-numbers t (it .quantity % 64) v) (it .quantity / 64) q h ∙ omega arith
+    by false true q h = reads-none (it .quantity / 64) q h
+    by false false q h = numbered-at 0 (shorts v) (short-numbers v) (it .quantity / 64) q h ∙ omega arith
+
+pub thirteen-when : Thirteen
+thirteen-when = record {
+  refused = λ t i v h. refused-when t (getD directory i none) v (every-at wide directory directory-wide i h);
+  reads = λ t i v. reads-item t (getD directory i none) v;
+}
