@@ -13,7 +13,7 @@ use Rattle.directory.specs.declared.Item.{Item}
 use Rattle.directory.specs.Item.{none}
 use Rattle.directory.specs.Run.{runItems, wordsOf}
 use Rattle.reading.specs.declared.Answer.the-variants.{Refused}
-use Rattle.reading.specs.Readings.{longOf, wordOf, isB}
+use Rattle.reading.specs.Readings.{longOf, wordOf, isB, readingOf}
 use Rattle.collector.specs.Collector.{placeOf, itemOf}
 
 -- one item more
@@ -57,6 +57,10 @@ module _ (t : ℕ) (its : List Item) (reply : List ℕ) (index : ℕ) where
   pub item-past : length its ≤ index → Refused IndexPastItems ≡ itemOf t its reply index
   unfolding itemOf
   item-past h = simp (le-ltb index (length its) h)
+
+  pub item-reads : index < length its → itemOf t its reply index ≡ readingOf t it (valueAt (it .words) reply (placeOf its index))
+  unfolding itemOf
+  item-reads h = simp (lt-ltb index (length its) h)
 
   pub item-long : index < length its → it .words ≡ 2 → longOf t (it .quantity) (valueAt 2 reply (placeOf its index)) ≡ itemOf t its reply index
   unfolding itemOf

@@ -1,1 +1,2 @@
 pub mod Collector
+pub mod Answers

@@ -173,30 +173,34 @@ module _ (t : ℕ) (it : Item) (v : ℕ) where
       by true e w = long-when e (sym (ap (λ (l : Bool). cond l (not (isB it) && (not (eqb k 8) && (leb 1 k && leb k 9))) (leb 8 k && leb k 16)) e) ∙ w)
       by false e w = word-when e (sym (ap (λ (l : Bool). cond l (not (isB it) && (not (eqb k 8) && (leb 1 k && leb k 9))) (leb 8 k && leb k 16)) e) ∙ w)
 
--- ---- each reading is of the kind it stands at
+-- ---- each answer is a reading of the kind it stands at, or the refusal
 
--- an answer reads nothing but kind k
-abbrev Reads : ℕ → Answer → Type 0
-Reads k a = (q : Quantity) → a ≡ Reading q → kindOf q ≡ k
+pub data Entry (k : ℕ) (a : Answer) : Type 0 where
+  reads : (q : Quantity) → a ≡ Reading q → kindOf q ≡ k → Entry k a
+  refused : a ≡ impossible → Entry k a
 
-reads-kind : (x : Quantity) → Reads (kindOf x) (Reading x)
-reads-kind x q h = sym (ap (λ (a : Answer). getD (told a) 1 0) h)
+reads-kind : (x : Quantity) → Entry (kindOf x) (Reading x)
+reads-kind x = reads x refl refl
 
-reads-if : (possible : Bool) (x : Quantity) → Reads (kindOf x) (when possible x)
-reads-if true x q h = reads-kind x q h
-reads-if false x q h = absurd (never q (sym h))
+reads-if : (possible : Bool) (x : Quantity) → Entry (kindOf x) (when possible x)
+reads-if true x = reads x refl refl
+reads-if false x = refused refl
 
-reads-none : (k : ℕ) → Reads k impossible
-reads-none k q h = absurd (never q (sym h))
+reads-none : (k : ℕ) → Entry k impossible
+reads-none k = refused refl
+
+numbered : {k j : ℕ} {a : Answer} → Entry k a → k ≡ j → Entry j a
+numbered (reads q e h) same = reads q e (h ∙ same)
+numbered (refused e) same = refused e
 
 abbrev Numbered : ℕ → List Answer → Type 0
 Numbered k [] = Unit
-Numbered k (a ∷ l) = Reads k a × Numbered (suc k) l
+Numbered k (a ∷ l) = Entry k a × Numbered (suc k) l
 
-numbered-at : (k : ℕ) (l : List Answer) → Numbered k l → (i : ℕ) → Reads (i + k) (getD l i impossible)
-numbered-at k [] h i q e = reads-none (i + k) q e
-numbered-at k (a ∷ l) h zero q e = h .0 q e ∙ omega arith
-numbered-at k (a ∷ l) h (suc i) q e = numbered-at (suc k) l (h .1) i q e ∙ omega arith
+numbered-at : (k : ℕ) (l : List Answer) → Numbered k l → (i : ℕ) → Entry (i + k) (getD l i impossible)
+numbered-at k [] h i = refused refl
+numbered-at k (a ∷ l) h zero = numbered (h .0) (omega arith)
+numbered-at k (a ∷ l) h (suc i) = numbered (numbered-at (suc k) l (h .1) i) (omega arith)
 
 long-numbers : (t w v : ℕ) → Numbered 0 (longs t w v)
 long-numbers t w v =
@@ -206,17 +210,21 @@ short-numbers : (v : ℕ) → Numbered 0 (shorts v)
 short-numbers v =
     (reads-none 0, (reads-none 1, (reads-none 2, (reads-none 3, (reads-none 4, (reads-none 5, (reads-none 6, (reads-none 7, (reads-kind _, (reads-if (leb (magnitudeIn 1 v) 100) (Factor (times 10 (signedIn 1 v))), (reads-if (leb v 1) (Sign v), (reads-if (leb v 2) (Sector v), (reads-kind _, (reads-if (leb 1 v && leb v 9999) (Kta v), (reads-if (leb 10 v && leb v 9999) (Ktv v), (reads-if (leb 1 v && leb v 2) (Sequence v), (reads-kind _, tt)))))))))))))))))
 
-reads-item : (t : ℕ) (it : Item) (v : ℕ) → Reads (it .quantity / 64) (readingOf t it v)
+pub item-entry : (t : ℕ) (it : Item) (v : ℕ) → Entry (it .quantity / 64) (readingOf t it v)
 unfolding longOf wordOf
-reads-item t it v = by (isL it) (isB it && leb 256 v)
+item-entry t it v = by (isL it) (isB it && leb 256 v)
   where
-    by : (l u : Bool) → Reads (it .quantity / 64) (cond l (getD (longs t (it .quantity % 64) v) (it .quantity / 64) impossible) (cond u impossible (getD (shorts v) (it .quantity / 64) impossible)))
-    by true u q h = numbered-at 0 (longs t (it .quantity % 64) v) (long-numbers t (it .quantity % 64) v) (it .quantity / 64) q h ∙ omega arith
-    by false true q h = reads-none (it .quantity / 64) q h
-    by false false q h = numbered-at 0 (shorts v) (short-numbers v) (it .quantity / 64) q h ∙ omega arith
+    by : (l u : Bool) → Entry (it .quantity / 64) (cond l (getD (longs t (it .quantity % 64) v) (it .quantity / 64) impossible) (cond u impossible (getD (shorts v) (it .quantity / 64) impossible)))
+    by true u = numbered (numbered-at 0 (longs t (it .quantity % 64) v) (long-numbers t (it .quantity % 64) v) (it .quantity / 64)) (omega arith)
+    by false true = refused refl
+    by false false = numbered (numbered-at 0 (shorts v) (short-numbers v) (it .quantity / 64)) (omega arith)
+
+entry-kind : {k : ℕ} {a : Answer} → Entry k a → (q : Quantity) → a ≡ Reading q → kindOf q ≡ k
+entry-kind (reads x e h) q f = ap (λ (b : Answer). getD (told b) 1 0) (sym f ∙ e) ∙ h
+entry-kind (refused e) q f = absurd (never q (sym f ∙ e))
 
 pub thirteen-when : Thirteen
 thirteen-when = record {
   refused = λ t i v h. refused-when t (getD directory i none) v (every-at wide directory directory-wide i h);
-  reads = λ t i v. reads-item t (getD directory i none) v;
+  reads = λ t i v. entry-kind (item-entry t (getD directory i none) v);
 }

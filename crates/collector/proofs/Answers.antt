@@ -1,0 +1,293 @@
+-- When each answer is given: every call comes to one of the rows or rules, and each of them leads to its answer alone.
+use mathlib.Core.Path.{_≡_, refl, sym, ap, subst, _∙_}
+use mathlib.Core.Logic.{_↔_, _⊎_, inl, inr}
+use mathlib.Core.Bool.{Bool, true, false, _||_, not, cond, false≢true}
+use mathlib.Core.List.{List}
+use Prim.Native.Nat.{ℕ, _+_, _*_, _≤_, _<_}
+use native.Mathlib.Omega.{arith}
+use lib.Dec.{leb, ltb, eqb}
+use lib.ListN.{length, getD}
+use borrow.Author.Tests.{ltb-true, ltb-false, leb-true, leb-false, eqb-true, eqb-false, lt-leb, le-leb, lt-ltb, le-ltb, eq-eqb, ne-eqb, not-true, not-false}
+use Rattle.refusal.specs.declared.Refusal.{Refusal}
+use Rattle.refusal.specs.declared.Refusal.the-variants.{MeterOutOfLimits, BufferShort, RatioOutOfLimits, OwnAddressZero, SampleOutOfLimits, EnergyPastTop, NotARead, ReplyLength, ReplyCrc, ReplyForeign, ReplyMisfit, IndexPastItems, ValueImpossible, JoinPastTop}
+use Rattle.refusal.specs.declared.ErrorCode.{ErrorCode}
+use Rattle.refusal.specs.declared.ErrorCode.the-variants.{Function, Address, Data}
+use Rattle.refusal.specs.Numbers.{errorNumber}
+use Rattle.crc.specs.Crc.{intact}
+use Rattle.words.specs.Words.{valueAt}
+use Rattle.ratio.specs.declared.Ratios.{Ratios}
+use Rattle.ratio.specs.Ratios.{ratiosOk, tOf}
+use Rattle.directory.specs.declared.Item.{Item}
+use Rattle.directory.specs.declared.Span.{Span}
+use Rattle.directory.specs.declared.Span.the-variants as span
+use Rattle.directory.specs.Item.{none}
+use Rattle.directory.specs.Table.{directory}
+use Rattle.directory.specs.Run.{runItems}
+use Rattle.directory.proofs.Rules.{directory-ruled}
+use Rattle.directory.proofs.Sends.{run-sends}
+use Rattle.modbus.specs.Frame.{addressOf, startOf, numberOf}
+use Rattle.modbus.specs.Read.{readIn}
+use Rattle.modbus.proofs.Frames.{neither}
+use Rattle.modbus.proofs.Judged.{asks}
+use Rattle.reading.specs.declared.Quantity.{Quantity}
+use Rattle.reading.specs.declared.Answer.{Answer}
+use Rattle.reading.specs.declared.Answer.the-variants.{Reading, Error, Refused}
+use Rattle.reading.specs.Cases.{told}
+use Rattle.reading.specs.Readings.{impossible, readingOf}
+use Rattle.reading.specs.Impossible.{thirteen}
+use Rattle.reading.proofs.Told.{one-answer-each}
+use Rattle.reading.proofs.Thirteen.{Entry, item-entry, thirteen-when}
+use Rattle.reading.proofs.Thirteen.Entry.{reads, refused}
+use Rattle.collector.specs.Collector.{heard, lengthWrong, isReadError, foreign, thirdOf, codeOf, errorOf, misfit, placeOf, itemOf, replyOf, collectorOf}
+use Rattle.collector.specs.Answers.{Asks, Asked, Heard, Fits, Holds, itemAt, valueIn, errorMisfit, Past, Impossible, Row, Errs, Reads, ExactlyWhen, NotMisread, Allows, Determined}
+use Rattle.collector.proofs.Places.{run-length, run-at, item-past, item-reads}
+use Rattle.collector.proofs.Judged.{length-refused, crc-refused, foreign-refused, error-given, misfit-refused, item-given, fitting}
+
+-- ---- the error code of a reply
+
+error-refused : (reply : List ℕ) → errorMisfit reply ≡ true → errorOf reply ≡ Refused ReplyMisfit
+unfolding errorOf
+error-refused reply h = by (eqb (length reply) 5) refl
+  where
+    n : ℕ
+    n = thirdOf reply
+
+    none-of : (a b : Bool) → ltb n 1 ≡ a → ltb 3 n ≡ b → (a || b) ≡ true → codeOf n ≡ Refused ReplyMisfit
+    none-of true b e f g = let z : n ≡ 0 = omega (arith, ltb-true n 1 e) in rw z refl
+    none-of false true e f g =
+        let over : 3 < n = ltb-true 3 n f in
+        simp (ne-eqb n 1 (λ z. omega (arith, over, z)), ne-eqb n 2 (λ z. omega (arith, over, z)), ne-eqb n 3 (λ z. omega (arith, over, z)))
+    none-of false false e f g = absurd (false≢true g)
+
+    by : (t : Bool) → eqb (length reply) 5 ≡ t → cond (not (eqb (length reply) 5)) (Refused ReplyMisfit) (codeOf n) ≡ Refused ReplyMisfit
+    by false e = rw e refl
+    by true e = ap (λ (t : Bool). cond (not t) (Refused ReplyMisfit) (codeOf n)) e ∙ none-of (ltb n 1) (ltb 3 n) refl refl (sym (ap (λ (t : Bool). not t || (ltb n 1 || ltb 3 n)) e) ∙ h)
+
+error-code : (reply : List ℕ) (code : ErrorCode) → length reply ≡ 5 → thirdOf reply ≡ errorNumber code → errorOf reply ≡ Error code
+unfolding errorOf
+error-code reply Function five says = simp (eq-eqb (length reply) 5 five, says)
+error-code reply Address five says = simp (eq-eqb (length reply) 5 five, says)
+error-code reply Data five says = simp (eq-eqb (length reply) 5 five, says)
+
+-- ---- each row and rule leads to its answer
+
+module _ (request reply : List ℕ) (r : Ratios) (index : ℕ) where
+  abbrev answer : Answer
+  answer = collectorOf request reply r index
+
+  to-reply : (a : Asked request r) → answer ≡ replyOf (tOf r) request reply (runItems directory (a .asks .first) (a .asks .count)) index
+  unfolding collectorOf
+  to-reply a = rw (a .ratios, a .asks .hears, a .asks .items) refl
+
+  -- the items of a run stand in the directory
+  run-inside : (a : Asks request) → a .first + a .count ≤ length directory
+  run-inside a = run-sends .inside directory (startOf request) (numberOf request) (a .first) (a .count) directory-ruled (asks directory request (a .first) (a .count) (a .items) .run)
+
+  to-item : (f : Fits request reply r) → answer ≡ itemOf (tOf r) (runItems directory (f .hears .asked .asks .first) (f .hears .asked .asks .count)) reply index
+  to-item f =
+      let h = f .hears in
+      to-reply (h .asked) ∙ sym (item-given (tOf r) request reply (runItems directory (h .asked .asks .first) (h .asked .asks .count)) index (h .long) (h .whole) (h .own) (f .words) (f .fits))
+
+  to-reading : (h : Holds request reply r index) → answer ≡ readingOf (tOf r) (itemAt (h .fits .hears .asked .asks) index) (valueIn (h .fits .hears .asked .asks) reply index)
+  to-reading h =
+      let a = h .fits .hears .asked .asks in
+      let its = runItems directory (a .first) (a .count) in
+      to-item (h .fits)
+      ∙ item-reads (tOf r) its reply index (omega (arith, h .below, run-length directory (a .first) (a .count) (run-inside a)))
+      ∙ ap (λ (it : Item). readingOf (tOf r) it (valueAt (it .words) reply (placeOf its index))) (run-at directory (a .first) (a .count) index (h .below))
+
+  ratio-row : ratiosOk r ≡ false → answer ≡ Refused RatioOutOfLimits
+  unfolding collectorOf
+  ratio-row h = rw h refl
+
+  request-row : ratiosOk r ≡ true → (Asks request → ⊥) → answer ≡ Refused NotARead
+  unfolding collectorOf
+  request-row ok other = by (heard request) (readIn directory request) refl refl
+    where
+      by : (t : Bool) (s : Span) → heard request ≡ t → readIn directory request ≡ s → answer ≡ Refused NotARead
+      by false s e f = rw (ok, e) refl
+      by true (span.Error code) e f = rw (ok, e, f) refl
+      by true (span.Items first count) e f = absurd (other (record { hears = e; first = first; count = count; items = f }))
+
+  row : (reason : Refusal) → Row reason request reply r index → answer ≡ Refused reason
+  row RatioOutOfLimits h = ratio-row h
+  row NotARead h = request-row (h .0) (h .1)
+  row ReplyLength h = to-reply (h .0) ∙ sym (length-refused _ _ _ _ _ (h .1))
+  row ReplyCrc h = to-reply (h .0) ∙ sym (crc-refused _ _ _ _ _ (h .1) (h .2))
+  row ReplyForeign h = to-reply (h .0) ∙ sym (foreign-refused _ _ _ _ _ (h .1) (h .2) (h .3))
+  row ReplyMisfit (h, inl m) =
+      to-reply (h .asked) ∙ sym (error-given _ _ _ _ _ (h .long) (h .whole) (h .own) (m .0)) ∙ error-refused reply (m .1)
+  row ReplyMisfit (h, inr m) = to-reply (h .asked) ∙ sym (misfit-refused _ _ _ _ _ (h .long) (h .whole) (h .own) (m .0) (m .1))
+  row IndexPastItems h =
+      let a = h .fits .hears .asked .asks in
+      to-item (h .fits) ∙ sym (item-past _ _ _ _ (omega (arith, h .past, run-length directory (a .first) (a .count) (run-inside a))))
+  row ValueImpossible h =
+      let a = h .holds .fits .hears .asked .asks in
+      to-reading (h .holds) ∙ thirteen-when .refused (tOf r) (a .first + index) (valueIn a reply index) (omega (arith, run-inside a, h .holds .below)) .1 (h .value)
+  row MeterOutOfLimits h = absurd h
+  row BufferShort h = absurd h
+  row OwnAddressZero h = absurd h
+  row SampleOutOfLimits h = absurd h
+  row EnergyPastTop h = absurd h
+  row JoinPastTop h = absurd h
+
+  errs : (code : ErrorCode) → Errs request reply r code → answer ≡ Error code
+  errs code h =
+      let s = h .hears in
+      to-reply (s .asked) ∙ sym (error-given _ _ _ _ _ (s .long) (s .whole) (s .own) (h .error)) ∙ error-code reply code (h .long) (h .says)
+
+  reading : (q : Quantity) → Reads request reply r index q → answer ≡ Reading q
+  reading q h = to-reading (h .holds) ∙ h .reading
+
+-- ---- every call comes to one of them
+
+no-items : {code : ErrorCode} {first count : ℕ} → span.Error code ≡ span.Items first count → ⊥
+no-items e = let z : _≡_ {A = ℕ} 0 1 = cc in omega arith
+
+pub data Outcome (request reply : List ℕ) (r : Ratios) (index : ℕ) : Type 0 where
+  refuses : (reason : Refusal) → Row reason request reply r index → Outcome request reply r index
+  errors : (code : ErrorCode) → Errs request reply r code → Outcome request reply r index
+  tells : (q : Quantity) → Reads request reply r index q → Outcome request reply r index
+
+module _ (request reply : List ℕ) (r : Ratios) (index : ℕ) where
+  abbrev Comes : Type 0
+  Comes = Outcome request reply r index
+
+  -- 13, or the reading
+  at-item : (h : Holds request reply r index) → Comes
+  at-item h =
+      let a = h .fits .hears .asked .asks in
+      by (item-entry (tOf r) (itemAt a index) (valueIn a reply index))
+    where
+      a : Asks request
+      a = h .fits .hears .asked .asks
+
+      by : {k : ℕ} → Entry k (readingOf (tOf r) (itemAt a index) (valueIn a reply index)) → Comes
+      by (reads q e k) = tells q (record { holds = h; reading = e })
+      by (refused e) = refuses ValueImpossible (record { holds = h; value = thirteen-when .refused (tOf r) (a .first + index) (valueIn a reply index) (omega (arith, run-inside request reply r index a, h .below)) .0 e })
+
+  -- 12
+  at-index : (f : Fits request reply r) → Comes
+  at-index f = by (ltb index n) refl
+    where
+      n : ℕ
+      n = f .hears .asked .asks .count
+
+      by : (t : Bool) → ltb index n ≡ t → Comes
+      by true e = at-item (record { fits = f; below = ltb-true index n e })
+      by false e = refuses IndexPastItems (record { fits = f; past = ltb-false index n e })
+
+  -- the code of an error reply
+  at-code : (h : Heard request reply r) → isReadError reply ≡ true → errorMisfit reply ≡ false → Comes
+  at-code h e m = by (eqb n 1) (eqb n 2) refl refl
+    where
+      n : ℕ
+      n = thirdOf reply
+
+      parts : (not (eqb (length reply) 5) ≡ false) × ((ltb n 1 || ltb 3 n) ≡ false)
+      parts = neither (not (eqb (length reply) 5)) (ltb n 1 || ltb 3 n) m
+
+      five : length reply ≡ 5
+      five = eqb-true (length reply) 5 (not-false _ (parts .0))
+
+      range : (1 ≤ n) × (n ≤ 3)
+      range = let t = neither (ltb n 1) (ltb 3 n) (parts .1) in (ltb-false n 1 (t .0), ltb-false 3 n (t .1))
+
+      by : (a b : Bool) → eqb n 1 ≡ a → eqb n 2 ≡ b → Comes
+      by true b x y = errors Function (record { hears = h; error = e; long = five; says = eqb-true n 1 x })
+      by false true x y = errors Address (record { hears = h; error = e; long = five; says = eqb-true n 2 y })
+      by false false x y = errors Data (record { hears = h; error = e; long = five; says = omega (arith, range, eqb-false n 1 x, eqb-false n 2 y) })
+
+  -- 11
+  at-shape : (h : Heard request reply r) → Comes
+  at-shape h = by (isReadError reply) (errorMisfit reply) (misfit request reply) refl refl refl
+    where
+      by : (e m d : Bool) → isReadError reply ≡ e → errorMisfit reply ≡ m → misfit request reply ≡ d → Comes
+      by true true d x y z = refuses ReplyMisfit (h, inl (x, y))
+      by true false d x y z = at-code h x y
+      by false m true x y z = refuses ReplyMisfit (h, inr (x, z))
+      by false m false x y z = at-index (record { hears = h; words = x; fits = z })
+
+  -- 8 to 10
+  at-reply : (a : Asked request r) → Comes
+  at-reply a = by (lengthWrong reply) (intact reply) (foreign request reply) refl refl refl
+    where
+      by : (l i f : Bool) → lengthWrong reply ≡ l → intact reply ≡ i → foreign request reply ≡ f → Comes
+      by true i f x y z = refuses ReplyLength (a, x)
+      by false false f x y z = refuses ReplyCrc (a, x, y)
+      by false true true x y z = refuses ReplyForeign (a, x, y, z)
+      by false true false x y z = at-shape (record { asked = a; long = x; whole = y; own = z })
+
+  -- 3 and 7
+  outcome : Comes
+  outcome = by (ratiosOk r) (heard request) (readIn directory request) refl refl refl
+    where
+      by : (o h : Bool) (s : Span) → ratiosOk r ≡ o → heard request ≡ h → readIn directory request ≡ s → Comes
+      by false h s x y z = refuses RatioOutOfLimits x
+      by true false s x y z = refuses NotARead (x, λ asks. false≢true (sym y ∙ asks .hears))
+      by true true (span.Error code) x y z = refuses NotARead (x, λ asks. no-items (sym z ∙ asks .items))
+      by true true (span.Items first count) x y z = at-reply (record { ratios = x; asks = record { hears = y; first = first; count = count; items = z } })
+
+-- ---- and to no two
+
+-- the case of an answer
+abbrev caseOf : Answer → ℕ
+caseOf a = getD (told a) 0 0
+
+-- what a case holds; any other holds nothing of the kind
+abbrev reasonIn : Answer → Refusal
+reasonIn (Reading q) = NotARead
+reasonIn (Error code) = NotARead
+reasonIn (Refused reason) = reason
+
+abbrev codeIn : Answer → ErrorCode
+codeIn (Reading q) = Function
+codeIn (Error code) = code
+codeIn (Refused reason) = Function
+
+abbrev quantityIn : Quantity → Answer → Quantity
+quantityIn d (Reading q) = q
+quantityIn d (Error code) = d
+quantityIn d (Refused reason) = d
+
+module _ (request reply : List ℕ) (r : Ratios) (index : ℕ) where
+  abbrev given : Answer
+  given = collectorOf request reply r index
+
+  only-row : (reason : Refusal) → given ≡ Refused reason → Outcome request reply r index → Row reason request reply r index
+  only-row reason h (refuses x w) = subst (λ (y : Refusal). Row y request reply r index) (ap reasonIn (sym (row request reply r index x w) ∙ h)) w
+  only-row reason h (errors code e) = absurd (let z = ap caseOf (sym (errs request reply r index code e) ∙ h) in omega (arith, z))
+  only-row reason h (tells q e) = absurd (let z = ap caseOf (sym (reading request reply r index q e) ∙ h) in omega (arith, z))
+
+  only-error : (code : ErrorCode) → given ≡ Error code → Outcome request reply r index → Errs request reply r code
+  only-error code h (refuses x w) = absurd (let z = ap caseOf (sym (row request reply r index x w) ∙ h) in omega (arith, z))
+  only-error code h (errors y e) = subst (λ (c : ErrorCode). Errs request reply r c) (ap codeIn (sym (errs request reply r index y e) ∙ h)) e
+  only-error code h (tells q e) = absurd (let z = ap caseOf (sym (reading request reply r index q e) ∙ h) in omega (arith, z))
+
+  only-reading : (q : Quantity) → given ≡ Reading q → Outcome request reply r index → Reads request reply r index q
+  only-reading q h (refuses x w) = absurd (let z = ap caseOf (sym (row request reply r index x w) ∙ h) in omega (arith, z))
+  only-reading q h (errors y e) = absurd (let z = ap caseOf (sym (errs request reply r index y e) ∙ h) in omega (arith, z))
+  only-reading q h (tells x e) = subst (λ (c : Quantity). Reads request reply r index c) (ap (quantityIn q) (sym (reading request reply r index x e) ∙ h)) e
+
+pub exactly-when : ExactlyWhen
+exactly-when = record {
+  refused = λ request reply r index reason. (λ h. only-row request reply r index reason h (outcome request reply r index), row request reply r index reason);
+  error = λ request reply r index code. (λ h. only-error request reply r index code h (outcome request reply r index), errs request reply r index code);
+  reading = λ request reply r index q. (λ h. only-reading request reply r index q h (outcome request reply r index), reading request reply r index q);
+}
+
+-- ---- what follows
+
+same-address : (request reply : List ℕ) → foreign request reply ≡ false → addressOf reply ≡ addressOf request
+same-address request reply h =
+    let n = neither (not (eqb (addressOf reply) (addressOf request))) _ h in
+    eqb-true (addressOf reply) (addressOf request) (not-false _ (n .0))
+
+pub not-misread : NotMisread
+not-misread = record {
+  reading = λ request reply r index q h. let f = exactly-when .reading request reply r index q .0 h .holds .fits in (f .hears .whole, same-address request reply (f .hears .own), fitting request reply (f .fits));
+  error = λ request reply r index code h. let s = exactly-when .error request reply r index code .0 h .hears in (s .whole, same-address request reply (s .own));
+}
+
+pub determined : Determined
+determined = record { once = λ request reply r index a b x y. one-answer-each .answers a b (x ∙ sym y) }

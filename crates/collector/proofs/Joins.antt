@@ -1,0 +1,73 @@
+-- A join has its tests in the order of the definition, so each refusal is due to one of them.
+use mathlib.Core.Path.{_≡_, refl, sym, ap, _∙_}
+use mathlib.Core.Logic.{_↔_, _⊎_, inl, inr}
+use mathlib.Core.Bool.{Bool, true, false, _&&_, cond, false≢true}
+use Prim.Native.Nat.{ℕ, _≤_, _<_}
+use native.Mathlib.Omega.{arith}
+use lib.Dec.{leb}
+use borrow.Author.Tests.{leb-true, leb-false, lt-leb}
+use Rattle.refusal.specs.declared.Refusal.{Refusal}
+use Rattle.refusal.specs.declared.Refusal.the-variants.{RatioOutOfLimits, JoinPastTop}
+use Rattle.refusal.specs.Numbers.{refusalNumber}
+use Rattle.ratio.specs.declared.Ratios.{Ratios}
+use Rattle.ratio.specs.declared.Count.{Count}
+use Rattle.ratio.specs.declared.WattHours.{WattHours}
+use Rattle.ratio.specs.declared.Joined.{Joined}
+use Rattle.ratio.specs.declared.Joined.the-variants.{Energy, Refused}
+use Rattle.ratio.specs.Ratios.{ratiosOk}
+use Rattle.ratio.specs.Energies.{joinOf, joinHalvesOf}
+use Rattle.collector.specs.Answers.{JoinsWhen}
+
+-- the number of a join's refusal; 0 for an energy
+abbrev numberOf : Joined → ℕ
+numberOf (Energy e) = 0
+numberOf (Refused reason) = refusalNumber reason
+
+-- the tests: ratios within limits, count at most its top
+abbrev joins : Bool → Bool → Joined → Joined
+joins ok small e = cond ok (cond small e (Refused JoinPastTop)) (Refused RatioOutOfLimits)
+
+three : (ok small : Bool) (e : Joined) → numberOf e ≡ 0 → (joins ok small e ≡ Refused RatioOutOfLimits) ↔ (ok ≡ false)
+three true true e z = (λ h. absurd (let n = ap numberOf h in omega (arith, n, z)), λ h. absurd (false≢true (sym h)))
+three true false e z = (λ h. absurd (let n = ap numberOf h in omega (arith, n)), λ h. absurd (false≢true (sym h)))
+three false small e z = (λ h. refl, λ h. refl)
+
+fourteen : (ok small : Bool) (e : Joined) → numberOf e ≡ 0 → (joins ok small e ≡ Refused JoinPastTop) ↔ ((ok ≡ true) × (small ≡ false))
+fourteen true true e z = (λ h. absurd (let n = ap numberOf h in omega (arith, n, z)), λ h. absurd (false≢true (sym (h .1))))
+fourteen true false e z = (λ h. (refl, refl), λ h. refl)
+fourteen false small e z = (λ h. absurd (let n = ap numberOf h in omega (arith, n)), λ h. absurd (false≢true (h .0)))
+
+-- what a refusal holds; an energy holds nothing of the kind
+abbrev reasonIn : Joined → Refusal
+reasonIn (Energy e) = RatioOutOfLimits
+reasonIn (Refused reason) = reason
+
+-- the tests: Low at most its top, High at most its top
+halves : (low high : Bool) (e : WattHours) (reason : Refusal) → (cond (low && high) (Energy e) (Refused JoinPastTop) ≡ Refused reason) ↔ ((reason ≡ JoinPastTop) × ((low ≡ false) ⊎ (high ≡ false)))
+halves true true e reason = (λ h. absurd (let z : _≡_ {A = ℕ} 0 1 = cc in omega (arith, z)), λ h. absurd (neither-false (h .1)))
+  where
+    neither-false : ((true ≡ false) ⊎ (true ≡ false)) → ⊥
+    neither-false (inl h) = false≢true (sym h)
+    neither-false (inr h) = false≢true (sym h)
+halves true false e reason = (λ h. (sym (ap reasonIn h), inr refl), λ h. ap Refused (sym (h .0)))
+halves false high e reason = (λ h. (sym (ap reasonIn h), inl refl), λ h. ap Refused (sym (h .0)))
+
+-- over a top, as a test and as a number
+over : (low high : ℕ) → ((leb low 999999 ≡ false) ⊎ (leb high 65535999 ≡ false)) ↔ ((999999 < low) ⊎ (65535999 < high))
+over low high = (to, from)
+  where
+    to : ((leb low 999999 ≡ false) ⊎ (leb high 65535999 ≡ false)) → (999999 < low) ⊎ (65535999 < high)
+    to (inl h) = inl (leb-false low 999999 h)
+    to (inr h) = inr (leb-false high 65535999 h)
+
+    from : ((999999 < low) ⊎ (65535999 < high)) → (leb low 999999 ≡ false) ⊎ (leb high 65535999 ≡ false)
+    from (inl h) = inl (lt-leb low 999999 h)
+    from (inr h) = inr (lt-leb high 65535999 h)
+
+pub joins-when : JoinsWhen
+unfolding joinOf joinHalvesOf
+joins-when = record {
+  three = λ r c wrap. three (ratiosOk r) (leb (c .0) 99999999) _ refl;
+  fourteen = λ r c wrap. (λ h. let t = fourteen (ratiosOk r) (leb (c .0) 99999999) _ refl .0 h in (t .0, leb-false (c .0) 99999999 (t .1)), λ h. fourteen (ratiosOk r) (leb (c .0) 99999999) _ refl .1 (h .0, lt-leb (c .0) 99999999 (h .1)));
+  halves = λ low high reason. (λ h. let t = halves (leb low 999999) (leb high 65535999) _ reason .0 h in (t .0, over low high .0 (t .1)), λ h. halves (leb low 999999) (leb high 65535999) _ reason .1 (h .0, over low high .1 (h .1)));
+}
