@@ -113,6 +113,13 @@ sent-same x y m n b h k e =
     let long : length x ≡ length y = sent-length (ap (λ (o : Outcome). o .handled .reply) e) in
     sym (sent-front x b h) ∙ ap₂ (λ (j : ℕ) (l : List ℕ). take j l) long (ap (λ (o : Outcome). o .buffer) e) ∙ sent-front y b k
 
+-- ---- an echo has the function of the frame
+
+pub echo-function : (frame : List ℕ) → 6 ≤ length frame → functionOf (echoReply frame) ≡ functionOf frame
+echo-function frame h =
+    let six = length-take-le 6 frame h in
+    List·getD-append (take 6 frame) (onLine (crcOf (take 6 frame))) 0 1 (omega arith) ∙ getD-take 6 frame 1 0 (omega arith)
+
 -- ---- an error reply tells its code
 
 pub one-code : (frame : List ℕ) (c d : ErrorCode) → errorReply frame c ≡ errorReply frame d → c ≡ d
@@ -126,9 +133,7 @@ not-data frame words code e =
 
 not-echo : {A : Type 0} (frame : List ℕ) (code : ErrorCode) → 6 ≤ length frame → echoReply frame ≡ errorReply frame code → A
 not-echo frame code h e =
-    let six = length-take-le 6 frame h in
-    let second : getD (echoReply frame) 1 0 ≡ functionOf frame = List·getD-append (take 6 frame) (onLine (crcOf (take 6 frame))) 0 1 (omega arith) ∙ getD-take 6 frame 1 0 (omega arith) in
-    let f : functionOf frame ≡ functionOf frame + 0x80 = sym second ∙ ap (λ (l : List ℕ). getD l 1 0) e in
+    let f : functionOf frame ≡ functionOf frame + 0x80 = sym (echo-function frame h) ∙ ap functionOf e in
     let y : ⊥ = omega arith in absurd y
 
 -- what led to an error reply

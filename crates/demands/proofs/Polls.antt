@@ -1,0 +1,286 @@
+-- A reply to a read is a data reply: as long as it says, with its CRC, and with each item's words where the collector looks for them.
+use mathlib.Core.Path.{_≡_, refl, sym, ap, _∙_}
+use mathlib.Core.Logic.{_↔_}
+use mathlib.Core.Bool.{Bool, true, false, _&&_, _||_, not, cond, false≢true, and-eq-true-iff}
+use mathlib.Core.List.{List, [], _∷_, _++_, append-assoc}
+use Prim.Native.Nat.{ℕ, zero, suc, _+_, _*_, _^_, _≤_, _<_}
+use native.Mathlib.Nat.{lt-of-lt-of-le, pow-le-pow-right}
+use native.Mathlib.Omega.{arith}
+use lib.Dec.{T, leb, ltb, eqb}
+use lib.ListN.{length, getD, take, drop, length-append}
+use lib.Seq.{sets}
+use borrow.Author.Tests.{leb-true, eqb-true, eqb-false, eq-eqb, ne-eqb, le-ltb, not-true, not-false}
+use Rattle.refusal.specs.declared.ErrorCode.{ErrorCode}
+use Rattle.refusal.specs.declared.ErrorCode.the-variants.{Function, Address, Data}
+use Rattle.refusal.specs.declared.Refusal.the-variants.{NotARead, IndexPastItems}
+use Rattle.refusal.specs.Numbers.{errorNumber}
+use Rattle.crc.specs.Crc.{crcOf, onLine, sealed, intact}
+use Rattle.crc.proofs.Laws.{intact-is-sealed}
+use Rattle.words.specs.Words.{sent, valueAt}
+use Rattle.words.proofs.Laws.{read-back, length-sent}
+use Rattle.ratio.specs.declared.Ratios.{Ratios}
+use Rattle.ratio.specs.Ratios.{ratiosOk}
+use Rattle.directory.specs.declared.Item.{Item}
+use Rattle.directory.specs.declared.Span.the-variants.{Items}
+use Rattle.directory.specs.Item.{none}
+use Rattle.directory.specs.Order.{every, roomOf}
+use Rattle.directory.specs.Table.{directory}
+use Rattle.directory.specs.Run.{runItems, wordsOf}
+use Rattle.directory.proofs.Order.{every-at, ruled-narrow}
+use Rattle.directory.proofs.Rules.{directory-ruled}
+use Rattle.directory.proofs.Sends.{run-sends}
+use Rattle.modbus.specs.Frame.{addressOf, functionOf, numberOf, startOf, isRead, isWrite, silence}
+use Rattle.modbus.specs.Read.{readIn}
+use Rattle.modbus.specs.Replies.{dataReply, errorReply, echoReply}
+use Rattle.modbus.proofs.Frames.{shaped-length}
+use Rattle.modbus.proofs.Judged.{asks}
+use Rattle.meter.specs.declared.Meter.{Meter}
+use Rattle.meter.specs.Meters.{meterOk, meterT}
+use Rattle.meter.proofs.Parts.{meter-parts}
+use Rattle.store.proofs.Verdicts.{write-when}
+use Rattle.registers.specs.Shown.{shownOf}
+use Rattle.registers.specs.Cases.{Typed}
+use Rattle.registers.proofs.Widths.{every-case}
+use Rattle.reading.specs.declared.Answer.the-variants.{Reading, Error, Refused}
+use Rattle.reading.specs.Readings.{readingOf}
+use Rattle.board.specs.Reads.{itemsSent}
+use Rattle.board.specs.Board.{Outcome, sentOf, boardOf}
+use Rattle.board.specs.Answers.{Heeds, Answers}
+use Rattle.board.proofs.Sent.{length-items}
+use Rattle.board.proofs.Views.{Gives, View, view}
+use Rattle.board.proofs.Views.Gives.{other, misread, shows, miswritten, stores}
+use Rattle.board.proofs.Views.View.{out, short, unheard, for-all, for-one}
+use Rattle.board.proofs.Replies.{gives-long, gives-whole, sent-front, echo-function}
+use Rattle.board.proofs.Answers.{obeys}
+use Rattle.collector.specs.Collector.{heard, lengthWrong, isReadError, foreign, thirdOf, misfit, placeOf, collectorOf}
+use Rattle.collector.specs.Answers.{Asks, Asked, Heard, Fits, Holds, itemAt, valueIn}
+use Rattle.collector.proofs.Places.{run-length, run-at}
+use Rattle.collector.proofs.Answers.{exactly-when}
+use Rattle.demands.specs.Meaning.{meaningOf}
+use Rattle.demands.proofs.Shown.{shown-is-read}
+use Rattle.demands.specs.RoundTrip.{replyIn, replyTo, Meets, WithData, RoundTrip}
+
+-- ---- the words of an item, among those of a run
+
+split : (m : Meter) (its : List Item) (i : ℕ) → i < length its → itemsSent m its ≡ itemsSent m (take i its) ++ (sent (getD its i none .words) (shownOf m (getD its i none .quantity)) ++ itemsSent m (drop (suc i) its))
+unfolding itemsSent
+split m [] i l = absurd (omega (arith, l))
+split m (it ∷ its) zero l = refl
+split m (it ∷ its) (suc i) l =
+    ap (λ (x : List ℕ). sent (it .words) (shownOf m (it .quantity)) ++ x) (split m its i (omega (arith, l))) ∙ sym (append-assoc (sent (it .words) (shownOf m (it .quantity))) _ _)
+
+-- a word is two bytes
+two-bytes : (n : ℕ) → n ≤ 2 → 256 ^ (2 * n) ≡ 65536 ^ n
+two-bytes zero h = refl
+two-bytes (suc zero) h = refl
+two-bytes (suc (suc zero)) h = refl
+two-bytes (suc (suc (suc n))) h = absurd (omega (arith, h))
+
+passed : (x : Bool) → T x → x ≡ true
+passed true h = refl
+passed false h = absurd h
+
+-- what an item shows fits its words
+directory-roomy : T (every (λ (it : Item). leb (roomOf it) (2 * it .words)) directory)
+unfolding every directory
+directory-roomy = tt
+
+-- ---- the reply
+
+-- a request that is heard, in its parts
+record Hears (request : List ℕ) : Type 0 where
+  pub own : addressOf request ≡ 0 → ⊥
+  pub read : isRead request ≡ true
+  pub loud : silence (addressOf request) request ≡ false
+
+hears : (request : List ℕ) → heard request ≡ true → Hears request
+unfolding heard
+hears request h =
+    let a = and-eq-true-iff (not (eqb (addressOf request) 0)) _ .0 h in
+    let b = and-eq-true-iff (isRead request) _ .0 (a .1) in
+    record { own = eqb-false (addressOf request) 0 (not-true _ (a .0)); read = b .0; loud = not-true _ (b .1) }
+
+heard-so : (request : List ℕ) → (addressOf request ≡ 0 → ⊥) → isRead request ≡ true → silence (addressOf request) request ≡ false → heard request ≡ true
+unfolding heard
+heard-so request own read loud = rw (ne-eqb (addressOf request) 0 own, read, loud) refl
+
+module _ (m : Meter) (request b : List ℕ) (meets : Meets m request b) (a : Asks request) where
+  abbrev its : List Item
+  its = runItems directory (a .first) (a .count)
+
+  abbrev reply : List ℕ
+  reply = dataReply request (itemsSent m its)
+
+  h : Hears request
+  h = hears request (a .hears)
+
+  answers : Answers m request b
+  answers = record { heeds = record { within = meets .within; room = meets .room; heard = rw (meets .own) (h .loud) }; own = h .own }
+
+  gives : Gives m request reply m
+  gives = shows (a .first) (a .count) (h .read) (a .items) refl refl
+
+  pub replies : replyTo m request b ≡ reply
+  replies =
+      let o = obeys .reads m request b (a .first) (a .count) answers (h .read) (a .items) in
+      ap (λ (x : Outcome). replyIn (x .handled .reply) (x .buffer)) o ∙ sent-front reply b (omega (arith, gives-long m request reply m gives, meets .room))
+
+  -- ---- as the collector judges it
+
+  long : length reply ≡ 5 + 2 * numberOf request
+  long =
+      let q = asks directory request (a .first) (a .count) (a .items) in
+      let sends = run-sends .sends directory (startOf request) (numberOf request) (a .first) (a .count) directory-ruled (q .run) in
+      let words = itemsSent m its in
+      let bs = addressOf request ∷ functionOf request ∷ 2 * numberOf request ∷ words in
+      length-append bs (onLine (crcOf bs)) ∙ omega (arith, length-items m its, sends)
+
+  ratios : ratiosOk (m .ratios) ≡ true
+  ratios = meter-parts m (meets .within) .ratios
+
+  -- the function of the reply is the request's
+  function : functionOf reply ≡ 0x03
+  function = eqb-true (functionOf request) 0x03 (h .read)
+
+  pub fits : Fits request reply (m .ratios)
+  fits =
+      let q = asks directory request (a .first) (a .count) (a .items) in
+      let other : isReadError reply ≡ false = rw function refl in
+      let same : isRead reply ≡ true = rw function refl in
+      record {
+        hears = record {
+          asked = record { ratios = ratios; asks = a };
+          long = simp (le-ltb (length reply) 5 (omega (arith, long)), le-ltb 256 (length reply) (omega (arith, long, q .most)));
+          whole = gives-whole m request reply m gives;
+          own = simp (eq-eqb (addressOf request) (addressOf request) refl, same);
+        };
+        words = other;
+        fits = simp (eq-eqb (2 * numberOf request) (2 * numberOf request) refl, eq-eqb (length reply) (5 + 2 * numberOf request) long);
+      }
+
+  -- ---- item by item
+
+  module _ (typed : Typed m) (index : ℕ) (below : index < a .count) where
+    abbrev it : Item
+    it = itemAt a index
+
+    inside : a .first + a .count ≤ length directory
+    inside = run-sends .inside directory (startOf request) (numberOf request) (a .first) (a .count) directory-ruled (asks directory request (a .first) (a .count) (a .items) .run)
+
+    known : a .first + index < length directory
+    known = omega (arith, inside, below)
+
+    fitting-words : shownOf m (it .quantity) < 65536 ^ it .words
+    fitting-words =
+        let room = leb-true (roomOf it) (2 * it .words) (passed _ (every-at (λ (x : Item). leb (roomOf x) (2 * x .words)) directory directory-roomy (a .first + index) known)) in
+        let narrow = ruled-narrow directory directory-ruled (a .first + index) known in
+        rw (sym (two-bytes (it .words) (narrow .few))) (lt-of-lt-of-le (every-case .room m typed (meets .within) (a .first + index) known) (pow-le-pow-right (omega arith) room))
+
+    value-back : valueIn a reply index ≡ shownOf m (it .quantity)
+    value-back =
+        let v = shownOf m (it .quantity) in
+        let before = addressOf request ∷ functionOf request ∷ 2 * numberOf request ∷ itemsSent m (take index its) in
+        let after = itemsSent m (drop (suc index) its) in
+        let crc = onLine (crcOf (addressOf request ∷ functionOf request ∷ 2 * numberOf request ∷ itemsSent m its)) in
+        let same = run-at directory (a .first) (a .count) index below in
+        let parts : itemsSent m its ≡ itemsSent m (take index its) ++ (sent (it .words) v ++ after) =
+        split m its index (omega (arith, below, run-length directory (a .first) (a .count) inside)) ∙ ap (λ (x : Item). itemsSent m (take index its) ++ (sent (x .words) (shownOf m (x .quantity)) ++ after)) same in
+        let whole : reply ≡ before ++ sent (it .words) v ++ (after ++ crc) =
+        ap (λ (l : List ℕ). (addressOf request ∷ functionOf request ∷ 2 * numberOf request ∷ l) ++ crc) parts
+        ∙ append-assoc before (sent (it .words) v ++ after) crc
+        ∙ ap (λ (l : List ℕ). before ++ l) (append-assoc (sent (it .words) v) after crc)
+        ∙ sym (append-assoc before (sent (it .words) v) (after ++ crc)) in
+        let here : placeOf its index ≡ length before = omega (arith, length-items m (take index its)) in
+        ap (λ (at : ℕ). valueAt (it .words) reply at) here
+        ∙ ap (λ (l : List ℕ). valueAt (it .words) l (length before)) whole
+        ∙ read-back .between (it .words) v before (after ++ crc) fitting-words
+
+    pub reads : collectorOf request reply (m .ratios) index ≡ Reading (meaningOf m (it .quantity))
+    unfolding fits
+    reads =
+        exactly-when .reading request reply (m .ratios) index (meaningOf m (it .quantity)) .1
+        (record {
+          holds = record { fits = fits; below = below };
+          reading = ap (readingOf (meterT m) it) value-back ∙ shown-is-read .items m typed (meets .within) (a .first + index) known;
+        })
+
+  pub past : (index : ℕ) → a .count ≤ index → collectorOf request reply (m .ratios) index ≡ Refused IndexPastItems
+  unfolding fits
+  past index over = exactly-when .refused request reply (m .ratios) index IndexPastItems .1 (record { fits = fits; past = over })
+
+-- ---- an error reply to such a request
+
+error-given : (request : List ℕ) (r : Ratios) (index : ℕ) (code : ErrorCode) → Asked request r → collectorOf request (errorReply request code) r index ≡ Error code
+error-given request r index code asked =
+    exactly-when .error request reply r index code .1
+    (record {
+      hears = record {
+        asked = asked;
+        long = refl;
+        whole = intact-is-sealed .passes (addressOf request ∷ (functionOf request + 0x80) ∷ errorNumber code ∷ []);
+        own = simp (eq-eqb (addressOf request) (addressOf request) refl, error, other);
+      };
+      error = error;
+      long = refl;
+      says = refl;
+    })
+  where
+    reply : List ℕ
+    reply = errorReply request code
+
+    three : functionOf request ≡ 0x03
+    three = eqb-true (functionOf request) 0x03 (hears request (asked .asks .hears) .read)
+
+    error : isReadError reply ≡ true
+    error = rw three refl
+
+    other : isRead reply ≡ false
+    other = rw three refl
+
+-- ---- a reply of function 0x03 is due to such a request alone
+
+no-read : {A : Type 0} → isRead [] ≡ true → A
+no-read e = absurd (false≢true e)
+
+no-error : {A : Type 0} (frame bytes : List ℕ) (code : ErrorCode) → bytes ≡ errorReply frame code → isRead bytes ≡ true → A
+no-error frame bytes code e h =
+    let f : functionOf frame + 0x80 ≡ 0x03 = eqb-true (functionOf frame + 0x80) 0x03 (sym (ap isRead e) ∙ h) in
+    let y : ⊥ = omega (arith, f) in absurd y
+
+no-echo : {A : Type 0} (frame bytes : List ℕ) → 6 ≤ length frame → isWrite frame ≡ true → bytes ≡ echoReply frame → isRead bytes ≡ true → A
+no-echo frame bytes long w e h =
+    let second : functionOf (echoReply frame) ≡ functionOf frame = echo-function frame long in
+    let f : functionOf frame ≡ 0x03 = sym second ∙ eqb-true (functionOf (echoReply frame)) 0x03 (sym (ap isRead e) ∙ h) in
+    let y : ⊥ = omega (arith, f, eqb-true (functionOf frame) 0x10 w) in absurd y
+
+module _ (m : Meter) (request b : List ℕ) (meets : Meets m request b) where
+  -- what is given is a data reply, or has another function
+  from-data : (bytes : List ℕ) (n : Meter) → Answers m request b → isRead bytes ≡ true → Gives m request bytes n → Asks request
+  from-data bytes n ans h (other r w e k) = no-error request bytes Function e h
+  from-data bytes n ans h (misread code r s e k) = no-error request bytes code e h
+  from-data bytes n ans h (shows first count r s e k) =
+      let loud : silence (addressOf request) request ≡ false = rw (sym (meets .own)) (ans .heeds .heard) in
+      record { hears = heard-so request (ans .own) r loud; first = first; count = count; items = s }
+  from-data bytes n ans h (miswritten code w v e k) = no-error request bytes code e h
+  from-data bytes n ans h (stores w v e k) = no-echo request bytes (omega (arith, shaped-length 0 request (write-when .legal m request .0 v .0) .0)) w e h
+
+  from-reply : isRead (replyTo m request b) ≡ true → View m request b → Asks request
+  from-reply h (out w e) = absurd (false≢true (sym w ∙ meets .within))
+  from-reply h (short w l e) = absurd (omega (arith, l, meets .room))
+  from-reply h (unheard w l s e) = no-read (sym (ap (λ (x : Outcome). isRead (replyIn (x .handled .reply) (x .buffer))) e) ∙ h)
+  from-reply h (for-all bytes n w z g e) = no-read (sym (ap (λ (x : Outcome). isRead (replyIn (x .handled .reply) (x .buffer))) e) ∙ h)
+  from-reply h (for-one bytes n w g e) =
+      let said : replyTo m request b ≡ bytes =
+      ap (λ (x : Outcome). replyIn (x .handled .reply) (x .buffer)) e ∙ sent-front bytes b (omega (arith, gives-long m request bytes n g, meets .room)) in
+      from-data bytes n w (sym (ap isRead said) ∙ h) g
+
+pub with-data : WithData
+with-data = record { same = λ m request b meets. (λ a. ap isRead (replies m request b meets a) ∙ hears request (a .hears) .read, λ h. from-reply m request b meets h (view m request b)) }
+
+pub round-trip : RoundTrip
+round-trip = record {
+  reads = λ m request b index typed meets a below. ap (λ (reply : List ℕ). collectorOf request reply (m .ratios) index) (replies m request b meets a) ∙ reads m request b meets a typed index below;
+  past = λ m request b index meets a over. ap (λ (reply : List ℕ). collectorOf request reply (m .ratios) index) (replies m request b meets a) ∙ past m request b meets a index over;
+  error = error-given;
+  other = λ m request b reply r index meets ok h. exactly-when .refused request reply r index NotARead .1 (ok, λ a. false≢true (sym h ∙ with-data .same m request b meets .0 a));
+}

@@ -1,0 +1,54 @@
+-- Board and collector together: what refusal 7 means by "answers with data" (paper 01, "Refusal numbers"), and the round trip from a
+-- meter's record through the bytes of its reply to the reading (demand 2).
+use mathlib.Core.Path.{_≡_}
+use mathlib.Core.Logic.{_↔_}
+use Prim.Native.Nat.{ℕ, _≤_, _<_}
+use mathlib.Core.Bool.{true, false}
+use mathlib.Core.List.{List, []}
+use lib.ListN.{length, take}
+use Rattle.refusal.specs.declared.Refusal.the-variants.{NotARead, IndexPastItems}
+use Rattle.refusal.specs.declared.ErrorCode.{ErrorCode}
+use Rattle.ratio.specs.declared.Ratios.{Ratios}
+use Rattle.ratio.specs.Ratios.{ratiosOk}
+use Rattle.modbus.specs.Frame.{addressOf, isRead}
+use Rattle.modbus.specs.Replies.{errorReply}
+use Rattle.meter.specs.declared.Meter.{Meter}
+use Rattle.meter.specs.Meters.{meterOk}
+use Rattle.registers.specs.Cases.{Typed}
+use Rattle.board.specs.declared.Reply.{Reply}
+use Rattle.board.specs.declared.Reply.the-variants as board
+use Rattle.board.specs.Board.{boardOf}
+use Rattle.reading.specs.declared.Answer.the-variants.{Reading, Error, Refused}
+use Rattle.collector.specs.Collector.{collectorOf}
+use Rattle.collector.specs.Answers.{Asks, Asked, itemAt}
+use Rattle.demands.specs.Meaning.{meaningOf}
+
+-- the bytes of a reply, at the start of the buffer; none where there is no reply
+abbrev pub replyIn : Reply → List ℕ → List ℕ
+replyIn board.Silent buffer = []
+replyIn (board.Refused reason) buffer = []
+replyIn (board.Sent n) buffer = take n buffer
+
+-- what a meter replies to a request
+abbrev pub replyTo : Meter → List ℕ → List ℕ → List ℕ
+replyTo m request b = replyIn (boardOf m request b .handled .reply) (boardOf m request b .buffer)
+
+-- a meter within limits, of the address that a request names, with room for its reply
+pub record Meets (m : Meter) (request b : List ℕ) : Type 0 where
+  pub within : meterOk m ≡ true
+  pub room : 256 ≤ length b
+  pub own : m .address ≡ addressOf request
+
+-- STATEMENT: the requests that the collector takes for a read that a meter of that own address answers with data are just those
+-- that every such meter answers with data, a reply of function 0x03
+pub record WithData : Type 0 where
+  pub same : (m : Meter) (request b : List ℕ) → Meets m request b → Asks request ↔ (isRead (replyTo m request b) ≡ true)
+
+-- STATEMENT: told the meter's own ratios, the collector gives for every index just the reading of that item's quantity, and 12 past the
+-- items; an error reply to such a request gives its code, whatever the index; a request that the meter does not answer with data
+-- is 7, whatever the reply
+pub record RoundTrip : Type 0 where
+  pub reads : (m : Meter) (request b : List ℕ) (index : ℕ) → Typed m → Meets m request b → (a : Asks request) → index < a .count → collectorOf request (replyTo m request b) (m .ratios) index ≡ Reading (meaningOf m (itemAt a index .quantity))
+  pub past : (m : Meter) (request b : List ℕ) (index : ℕ) → Meets m request b → (a : Asks request) → a .count ≤ index → collectorOf request (replyTo m request b) (m .ratios) index ≡ Refused IndexPastItems
+  pub error : (request : List ℕ) (r : Ratios) (index : ℕ) (code : ErrorCode) → Asked request r → collectorOf request (errorReply request code) r index ≡ Error code
+  pub other : (m : Meter) (request b reply : List ℕ) (r : Ratios) (index : ℕ) → Meets m request b → ratiosOk r ≡ true → isRead (replyTo m request b) ≡ false → collectorOf request reply r index ≡ Refused NotARead
