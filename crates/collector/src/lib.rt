@@ -32,6 +32,9 @@ const HEAD: usize = 3;
 
 const REPLY_LEAST: usize = 5;
 
+// From here on addresses count words. Before, they count bytes, and what fills one is a B.
+const WORD_BLOCKS: u16 = 0x1000;
+
 // What one item of a reply says, told the ratios of the meter asked.
 pub fn read(request: &[u8], reply: &[u8], ratios: Ratios, index: usize) -> Answer
     ensures { λ r. ⌜ r ≡ collectorOf (now (request .entry)) (now (reply .entry)) ratios index ⌝ }
@@ -42,13 +45,7 @@ pub fn read(request: &[u8], reply: &[u8], ratios: Ratios, index: usize) -> Answe
     if !heard(request) {
         return Answer::Refused(Refusal::NotARead);
     }
-    along(
-        &table::TABLE,
-        request,
-        reply,
-        ratios.tenths(),
-        index,
-    )
+    along(&table::TABLE, request, reply, ratios.tenths(), index)
 }
 
 // Whether the meter that a request names hears a read in it.
@@ -145,7 +142,7 @@ fn item(t: &[u16], reply: &[u8], tenths: u32, first: usize, count: usize, index:
         let value = words::value_at(reply, at, 2);
         return reading::long(tenths, it.quantity, value);
     }
-    let byte = (it.start < 0x1000) & (it.fills == 1);
+    let byte = (it.start < WORD_BLOCKS) & (it.fills == 1);
     let value = words::word_at(reply, at);
     reading::word(it.quantity, byte, value)
 }

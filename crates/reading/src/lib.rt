@@ -55,6 +55,11 @@ pub enum Answer {
     Refused(Refusal),
 }
 
+// A power factor is at most 1 in magnitude.
+const TOP_IN_HUNDREDTHS: u64 = 100;
+
+const TOP_IN_THOUSANDTHS: u64 = 1_000;
+
 // What an L reads as, at ratios of product t.
 pub fn long(t: u32, quantity: u16, value: u32) -> Answer
     ensures { λ r. ⌜ r ≡ longOf t quantity value ⌝ }
@@ -69,7 +74,7 @@ pub fn long(t: u32, quantity: u16, value: u32) -> Answer
         ENERGY_COUNT => when(value <= Count::TOP, energy(t, value)),
         LOW => when(value <= WattHours::LOW_TOP, Quantity::Low(value)),
         HIGH => when(value <= WattHours::HIGH_TOP, Quantity::High(value)),
-        FACTOR => factor(signed_long(value), 1_000, 1),
+        FACTOR => factor(signed_long(value), TOP_IN_THOUSANDTHS, 1),
         _ => Answer::Refused(Refusal::ValueImpossible),
     }
 }
@@ -84,7 +89,7 @@ pub fn word(quantity: u16, byte: bool, value: u16) -> Answer
     let kind = quantity - quantity % 64;
     match kind {
         WRAP => Answer::Reading(Quantity::Wrap(value)),
-        FACTOR => factor(signed_word(value), 100, 10),
+        FACTOR => factor(signed_word(value), TOP_IN_HUNDREDTHS, 10),
         SIGN => when(value <= 1, Quantity::Sign(value)),
         SECTOR => when(value <= 2, Quantity::Sector(value)),
         FREQUENCY => Answer::Reading(Quantity::Frequency(value)),
