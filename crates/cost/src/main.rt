@@ -2,6 +2,7 @@
 mod bytes;
 mod figures;
 mod polls;
+mod readings;
 
 use libc::STDIN_FILENO;
 use libc::STDOUT_FILENO;
@@ -10,6 +11,8 @@ fn main() {
     let mut buf = [0u8; 256];
     let n = io::read_full(STDIN_FILENO, &mut buf);
     io::print_hex(STDOUT_FILENO, polls::answered(&buf[..n]) as u64, 2);
+    io::write_all(STDOUT_FILENO, b"\n");
+    io::print_hex(STDOUT_FILENO, readings::collected(&buf[..n]), 2);
     io::write_all(STDOUT_FILENO, b"\n");
     io::print_hex(STDOUT_FILENO, bytes::sealed(&mut buf, n) as u64, 2);
     io::write_all(STDOUT_FILENO, b"\n");

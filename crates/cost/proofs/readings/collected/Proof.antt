@@ -1,0 +1,58 @@
+-- A reply has 256 bytes at the most.
+use mathlib.Core.Path.{_≡_, refl, sym, ap, _∙_}
+use native.Mathlib.Omega.{arith}
+use Prim.Native.Nat.{_≤_}
+use lib.Seq.{length-take-le}
+use Rattle.board.specs.declared.Handled.{Handled}
+use Rattle.board.specs.declared.Reply.the-variants.{Sent}
+use Rattle.board.proofs.Answers.{replies-sealed}
+use borrow.Author.Needs.{needs}
+use Rattle.cost.proofs.readings.collected.Statement.{statement}
+use Rattle.cost.proofs.readings.collected.Tie as tie
+
+sent : (c : tie.After-did) → c .did .given .0 .0 ≤ 256
+sent c =
+    let h = c .before .before .before .handle in
+    let e : h .result .reply ≡ Sent (c .did .given .0 .0) = cc in
+    replies-sealed .long _ _ _ _ (ap (λ (x : Handled). x .reply) (sym (h .ensures .0)) ∙ e)
+
+new-requires : tie.Need-new-requires
+new-requires c κs = search needs
+
+slice-aggregate-handle : tie.Need-slice-aggregate-handle
+slice-aggregate-handle c = search needs
+
+handle-requires : tie.Need-handle-requires
+handle-requires c κs = search needs
+
+enum-known-did : tie.Need-enum-known-did
+enum-known-did c = search needs
+
+returns : tie.Need-returns
+returns c = search needs
+
+array-share-prefix-buffer : tie.Need-array-share-prefix-buffer
+array-share-prefix-buffer c = omega (arith, sent (c .before))
+
+slice-aggregate-again : tie.Need-slice-aggregate-again
+slice-aggregate-again c = sym (length-take-le _ _ (omega (arith, sent (c .before .before))))
+
+again-requires : tie.Need-again-requires
+again-requires c κs = search needs
+
+returns-2 : tie.Need-returns-2
+returns-2 c = search needs
+
+pub collected-spec : {M : Type 1} → statement M
+collected-spec =
+    tie.close
+    (tie.spec
+    new-requires
+    slice-aggregate-handle
+    handle-requires
+    enum-known-did
+    returns
+    array-share-prefix-buffer
+    slice-aggregate-again
+    again-requires
+    returns-2)
