@@ -1,13 +1,13 @@
 -- When each answer is given: every call comes to one of the rows or rules, and each of them leads to its answer alone.
 use mathlib.Core.Path.{_≡_, refl, sym, ap, subst, _∙_}
-use mathlib.Core.Logic.{_↔_, _⊎_, inl, inr}
+use mathlib.Core.Logic.{inl, inr}
 use mathlib.Core.Bool.{Bool, true, false, _||_, not, cond, false≢true}
 use mathlib.Core.List.{List}
-use Prim.Native.Nat.{ℕ, _+_, _*_, _≤_, _<_}
+use Prim.Native.Nat.{ℕ, _+_, _≤_, _<_}
 use native.Mathlib.Omega.{arith}
-use lib.Dec.{leb, ltb, eqb}
+use lib.Dec.{ltb, eqb}
 use lib.ListN.{length, getD}
-use borrow.Author.Tests.{ltb-true, ltb-false, leb-true, leb-false, eqb-true, eqb-false, lt-leb, le-leb, lt-ltb, le-ltb, eq-eqb, ne-eqb, not-true, not-false}
+use borrow.Author.Tests.{ltb-true, ltb-false, eqb-true, eqb-false, eq-eqb, ne-eqb, not-false}
 use Rattle.refusal.specs.declared.Refusal.{Refusal}
 use Rattle.refusal.specs.declared.Refusal.the-variants.{MeterOutOfLimits, BufferShort, RatioOutOfLimits, OwnAddressZero, SampleOutOfLimits, EnergyPastTop, NotARead, ReplyLength, ReplyCrc, ReplyForeign, ReplyMisfit, IndexPastItems, ValueImpossible, JoinPastTop}
 use Rattle.refusal.specs.declared.ErrorCode.{ErrorCode}
@@ -20,7 +20,6 @@ use Rattle.ratio.specs.Ratios.{ratiosOk, tOf}
 use Rattle.directory.specs.declared.Item.{Item}
 use Rattle.directory.specs.declared.Span.{Span}
 use Rattle.directory.specs.declared.Span.the-variants as span
-use Rattle.directory.specs.Item.{none}
 use Rattle.directory.specs.Table.{directory}
 use Rattle.directory.specs.Run.{runItems}
 use Rattle.directory.proofs.Rules.{directory-ruled}
@@ -33,13 +32,12 @@ use Rattle.reading.specs.declared.Quantity.{Quantity}
 use Rattle.reading.specs.declared.Answer.{Answer}
 use Rattle.reading.specs.declared.Answer.the-variants.{Reading, Error, Refused}
 use Rattle.reading.specs.Cases.{told}
-use Rattle.reading.specs.Readings.{impossible, readingOf}
-use Rattle.reading.specs.Impossible.{thirteen}
+use Rattle.reading.specs.Readings.{readingOf}
 use Rattle.reading.proofs.Told.{one-answer-each}
 use Rattle.reading.proofs.Thirteen.{Entry, item-entry, thirteen-when}
 use Rattle.reading.proofs.Thirteen.Entry.{reads, refused}
 use Rattle.collector.specs.Collector.{heard, lengthWrong, isReadError, foreign, thirdOf, codeOf, errorOf, misfit, placeOf, itemOf, replyOf, collectorOf}
-use Rattle.collector.specs.Answers.{Asks, Asked, Heard, Fits, Holds, itemAt, valueIn, errorMisfit, Past, Impossible, Row, Errs, Reads, ExactlyWhen, NotMisread, Allows, Determined}
+use Rattle.collector.specs.Answers.{Asks, Asked, Heard, Fits, Holds, itemAt, valueIn, errorMisfit, Row, Errs, Reads, ExactlyWhen, NotMisread, Determined}
 use Rattle.collector.proofs.Places.{run-length, run-at, item-past, item-reads}
 use Rattle.collector.proofs.Judged.{length-refused, crc-refused, foreign-refused, error-given, misfit-refused, item-given, fitting}
 

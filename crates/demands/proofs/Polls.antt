@@ -1,41 +1,37 @@
 -- A reply to a read is a data reply: as long as it says, with its CRC, and with each item's words where the collector looks for them.
 use mathlib.Core.Path.{_≡_, refl, sym, ap, _∙_}
-use mathlib.Core.Logic.{_↔_}
-use mathlib.Core.Bool.{Bool, true, false, _&&_, _||_, not, cond, false≢true, and-eq-true-iff}
+use mathlib.Core.Bool.{Bool, true, false, not, false≢true, and-eq-true-iff}
 use mathlib.Core.List.{List, [], _∷_, _++_, append-assoc}
 use Prim.Native.Nat.{ℕ, zero, suc, _+_, _*_, _^_, _≤_, _<_}
 use native.Mathlib.Nat.{lt-of-lt-of-le, pow-le-pow-right}
 use native.Mathlib.Omega.{arith}
-use lib.Dec.{T, leb, ltb, eqb}
+use lib.Dec.{T, leb, eqb}
 use lib.ListN.{length, getD, take, drop, length-append}
-use lib.Seq.{sets}
-use borrow.Author.Tests.{leb-true, eqb-true, eqb-false, eq-eqb, ne-eqb, le-ltb, not-true, not-false}
+use borrow.Author.Tests.{leb-true, eqb-true, eqb-false, eq-eqb, ne-eqb, le-ltb, not-true}
 use Rattle.refusal.specs.declared.ErrorCode.{ErrorCode}
-use Rattle.refusal.specs.declared.ErrorCode.the-variants.{Function, Address, Data}
+use Rattle.refusal.specs.declared.ErrorCode.the-variants.{Function}
 use Rattle.refusal.specs.declared.Refusal.the-variants.{NotARead, IndexPastItems}
 use Rattle.refusal.specs.Numbers.{errorNumber}
-use Rattle.crc.specs.Crc.{crcOf, onLine, sealed, intact}
+use Rattle.crc.specs.Crc.{crcOf, onLine}
 use Rattle.crc.proofs.Laws.{intact-is-sealed}
 use Rattle.words.specs.Words.{sent, valueAt}
-use Rattle.words.proofs.Laws.{read-back, length-sent}
+use Rattle.words.proofs.Laws.{read-back}
 use Rattle.ratio.specs.declared.Ratios.{Ratios}
 use Rattle.ratio.specs.Ratios.{ratiosOk}
 use Rattle.directory.specs.declared.Item.{Item}
-use Rattle.directory.specs.declared.Span.the-variants.{Items}
 use Rattle.directory.specs.Item.{none}
 use Rattle.directory.specs.Order.{every, roomOf}
 use Rattle.directory.specs.Table.{directory}
-use Rattle.directory.specs.Run.{runItems, wordsOf}
+use Rattle.directory.specs.Run.{runItems}
 use Rattle.directory.proofs.Order.{every-at, ruled-narrow}
 use Rattle.directory.proofs.Rules.{directory-ruled}
 use Rattle.directory.proofs.Sends.{run-sends}
 use Rattle.modbus.specs.Frame.{addressOf, functionOf, numberOf, startOf, isRead, isWrite, silence}
-use Rattle.modbus.specs.Read.{readIn}
 use Rattle.modbus.specs.Replies.{dataReply, errorReply, echoReply}
 use Rattle.modbus.proofs.Frames.{shaped-length}
 use Rattle.modbus.proofs.Judged.{asks}
 use Rattle.meter.specs.declared.Meter.{Meter}
-use Rattle.meter.specs.Meters.{meterOk, meterT}
+use Rattle.meter.specs.Meters.{meterT}
 use Rattle.meter.proofs.Parts.{meter-parts}
 use Rattle.store.proofs.Verdicts.{write-when}
 use Rattle.registers.specs.Shown.{shownOf}
@@ -44,16 +40,16 @@ use Rattle.registers.proofs.Widths.{every-case}
 use Rattle.reading.specs.declared.Answer.the-variants.{Reading, Error, Refused}
 use Rattle.reading.specs.Readings.{readingOf}
 use Rattle.board.specs.Reads.{itemsSent}
-use Rattle.board.specs.Board.{Outcome, sentOf, boardOf}
-use Rattle.board.specs.Answers.{Heeds, Answers}
+use Rattle.board.specs.Board.{Outcome}
+use Rattle.board.specs.Answers.{Answers}
 use Rattle.board.proofs.Sent.{length-items}
 use Rattle.board.proofs.Views.{Gives, View, view}
 use Rattle.board.proofs.Views.Gives.{other, misread, shows, miswritten, stores}
 use Rattle.board.proofs.Views.View.{out, short, unheard, for-all, for-one}
 use Rattle.board.proofs.Replies.{gives-long, gives-whole, sent-front, echo-function}
 use Rattle.board.proofs.Answers.{obeys}
-use Rattle.collector.specs.Collector.{heard, lengthWrong, isReadError, foreign, thirdOf, misfit, placeOf, collectorOf}
-use Rattle.collector.specs.Answers.{Asks, Asked, Heard, Fits, Holds, itemAt, valueIn}
+use Rattle.collector.specs.Collector.{heard, isReadError, placeOf, collectorOf}
+use Rattle.collector.specs.Answers.{Asks, Asked, Fits, itemAt, valueIn}
 use Rattle.collector.proofs.Places.{run-length, run-at}
 use Rattle.collector.proofs.Answers.{exactly-when}
 use Rattle.demands.specs.Meaning.{meaningOf}

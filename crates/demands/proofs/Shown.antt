@@ -1,12 +1,12 @@
 -- What a meter shows of an item is read as what it means: an argument for each kind, and the directory's items come under them by one
 -- computed test.
 use mathlib.Core.Path.{_≡_, refl, sym, ap, _∙_}
-use mathlib.Core.Bool.{Bool, true, false, _&&_, _||_, cond, and-eq-true-iff}
+use mathlib.Core.Bool.{Bool, true, false, _&&_, cond, and-eq-true-iff}
 use mathlib.Core.List.{List, [], _∷_, map}
 use Prim.Native.Nat.{ℕ, zero, suc, _*_, _/_, _%_, _^_, _≤_, _<_, zero-le}
 use native.Mathlib.Nat.{lt-of-le-of-lt}
 use native.Mathlib.Omega.{arith}
-use lib.Dec.{T, leb, ltb, eqb, eqb→eq}
+use lib.Dec.{leb, ltb, eqb}
 use lib.ListN.{length, getD, List·getD-eq-default}
 use borrow.Author.Tests.{eqb-true, le-leb, lt-leb, lt-ltb}
 use lib.IntN.{ℤ, pos, negsuc, natAbs}
@@ -20,8 +20,7 @@ use Rattle.ratio.proofs.Joins.{counts-fit}
 use Rattle.directory.specs.declared.Item.{Item}
 use Rattle.directory.specs.Item.{none}
 use Rattle.directory.specs.Table.{directory}
-use Rattle.directory.specs.Order.{every, roomOf}
-use Rattle.directory.proofs.Order.{every-at}
+use Rattle.directory.specs.Order.{roomOf}
 use Rattle.meter.specs.declared.Meter.{Meter}
 use Rattle.meter.specs.Samples.{factorOf}
 use Rattle.meter.specs.Meters.{meterT, meterOk}
@@ -38,21 +37,10 @@ use Rattle.reading.specs.declared.Answer.{Answer}
 use Rattle.reading.specs.declared.Answer.the-variants.{Reading}
 use Rattle.reading.specs.Readings.{impossible, when, times, signedIn, counted, longs, shorts, isB, readingOf}
 use Rattle.reading.proofs.ByKind.{long-kind, word-kind, Each, each-at}
+use Rattle.reading.proofs.Wide.{wordsFor, wide-at}
 use Rattle.demands.specs.Meaning.{cut, powerMeanings, signedMeanings, countMeanings, lowMeanings, highMeanings, wrapMeanings, factorMeanings, signMeanings, meanings, meaningOf, ShownIsRead}
 
--- ---- L, W and B
-
--- voltage to High are L, and so is the factor in thousandths
-abbrev wordsOf : ℕ → ℕ → ℕ
-wordsOf kind which = cond (ltb kind 8 || (eqb kind 9 && eqb which 1)) 2 1
-
-abbrev sized : Item → Bool
-sized it = eqb (it .words) (wordsOf (it .quantity / 64) (it .quantity % 64))
-
--- THE TEST: so it is of every item
-directory-sized : T (every sized directory)
-unfolding every directory
-directory-sized = tt
+-- ---- a B
 
 -- what has room in a B leaves the upper byte clear
 upper-clear : (it : Item) (v : ℕ) → v < 256 ^ roomOf it → (isB it && leb 256 v) ≡ false
@@ -67,7 +55,7 @@ upper-clear it v h = by (ltb (it .start) 0x1000) (eqb (it .fills) 1) refl h
 
 -- what a value reads as
 abbrev answerOf : ℕ → ℕ → ℕ → ℕ → Answer
-answerOf t kind which v = cond (eqb (wordsOf kind which) 2) (getD (longs t which v) kind impossible) (getD (shorts v) kind impossible)
+answerOf t kind which v = cond (eqb (wordsFor kind which) 2) (getD (longs t which v) kind impossible) (getD (shorts v) kind impossible)
 
 possible : {b : Bool} {q : Quantity} → b ≡ true → when b q ≡ Reading q
 possible {b} {q} h = ap (λ (t : Bool). when t q) h
@@ -207,7 +195,7 @@ items m typed ok i l =
     let case = every-case .case m typed ok q (every-case .known i l) in
     let inside : 17 ≤ q / 64 → ⊥ = λ beyond. omega (arith, ap length (List·getD-eq-default (valuesOf m) [] beyond)) in
     rw (
-      eqb→eq (it .words) _ (every-at sized directory directory-sized i l),
+      wide-at i l .words,
       long-kind (meterT m) q v (q / 64) (omega arith),
       word-kind q (isB it) v (q / 64) (upper-clear it v (every-case .room m typed ok i l)) (omega arith),
     )

@@ -1,20 +1,18 @@
 -- Refusal 13, kind by kind: what stands beside a reading in the list is what the row says of its kind.
 use mathlib.Core.Path.{_≡_, refl, sym, ap, _∙_}
 use mathlib.Core.Logic.{_↔_}
-use mathlib.Core.Bool.{Bool, true, false, _&&_, _||_, not, cond, false≢true, and-eq-true-iff}
-use mathlib.Core.List.{List, [], _∷_, _++_}
-use Prim.Native.Nat.{ℕ, zero, suc, _+_, _*_, _/_, _%_, _≤_, _<_}
+use mathlib.Core.Bool.{Bool, true, false, _&&_, _||_, not, cond, false≢true}
+use mathlib.Core.List.{List, [], _∷_}
+use Prim.Native.Nat.{ℕ, zero, suc, _+_, _*_, _/_, _%_}
 use native.Mathlib.Omega.{arith}
-use lib.Dec.{T, leb, ltb, eqb}
-use lib.ListN.{length, getD}
-use borrow.Author.Tests.{leb-true, leb-false, eqb-true, eqb-false, le-leb, lt-leb, lt-ltb, le-ltb, eq-eqb, not-true, not-false}
+use lib.Dec.{leb, ltb, eqb}
+use lib.ListN.{getD}
+use borrow.Author.Tests.{leb-true, leb-false, eqb-true, eqb-false, lt-ltb, le-ltb}
 use Rattle.words.specs.Signed.{magnitudeIn}
 use Rattle.directory.specs.declared.Item.{Item}
 use Rattle.directory.specs.Item.{none}
-use Rattle.directory.specs.Order.{every}
 use Rattle.directory.specs.Run.{isL}
 use Rattle.directory.specs.Table.{directory}
-use Rattle.directory.proofs.Order.{every-at}
 use Rattle.reading.specs.declared.Quantity.{Quantity}
 use Rattle.reading.specs.declared.Quantity.the-variants.{Voltage, Current, Power, SignedPower, Low, High, Wrap, Factor, Sign, Sector, Frequency, Kta, Ktv, Sequence, Plain}
 use Rattle.reading.specs.declared.Answer.{Answer}
@@ -23,18 +21,7 @@ use Rattle.reading.specs.Cases.{kindOf, told}
 use Rattle.reading.specs.Readings.{impossible, when, times, signedIn, unitOf, counted, longs, shorts, longOf, wordOf, isB, readingOf}
 use Rattle.reading.specs.Impossible.{oneOf, thirteen, Thirteen}
 use Rattle.reading.proofs.ByKind.{Each, each-at}
-
--- ---- each item is as wide as its kind is: one computed test
-
-abbrev pub wide : Item → Bool
-wide it =
-    cond (isL it)
-    (not (isB it) && (not (eqb (it .quantity / 64) 8) && (leb 1 (it .quantity / 64) && leb (it .quantity / 64) 9)))
-    (leb 8 (it .quantity / 64) && leb (it .quantity / 64) 16)
-
-directory-wide : T (every wide directory)
-unfolding every directory
-directory-wide = tt
+use Rattle.reading.proofs.Wide.{Wide, wide-at, long-kinds, word-kinds}
 
 -- ---- a reading beside its row
 
@@ -138,10 +125,6 @@ module _ (b : Bool) (v : ℕ) where
 same-when : {a b : Answer} {x y : Bool} → a ≡ b → x ≡ y → RefusedWhen b y → RefusedWhen a x
 same-when e f h = rw (e, f) h
 
-passed : (x : Bool) → T x → x ≡ true
-passed true h = refl
-passed false h = absurd h
-
 module _ (t : ℕ) (it : Item) (v : ℕ) where
   abbrev k : ℕ
   k = it .quantity / 64
@@ -150,28 +133,21 @@ module _ (t : ℕ) (it : Item) (v : ℕ) where
   unfolding thirteen
   as-row b l e f = rw (sym e, sym f) refl
 
-  long-when : isL it ≡ true → (not (isB it) && (not (eqb k 8) && (leb 1 k && leb k 9))) ≡ true → RefusedWhen (readingOf t it v) (thirteen it v)
-  unfolding longOf
-  long-when two h =
-      let a = and-eq-true-iff (not (isB it)) _ .0 h in
-      let b = and-eq-true-iff (not (eqb k 8)) _ .0 (a .1) in
-      let c = and-eq-true-iff (leb 1 k) (leb k 9) .0 (b .1) in
-      same-when (ap (λ (l : Bool). cond l (longOf t (it .quantity) v) (wordOf (it .quantity) (isB it) v)) two) (as-row false true (not-true _ (a .0)) two)
-      (each-at (LongRow t (it .quantity % 64) v) 1 9 k (long-rows t (it .quantity % 64) v) (leb-true 1 k (c .0)) (omega (arith, leb-true k 9 (c .1))) (eqb-false k 8 (not-true _ (b .0))))
+  abbrev by-width : Bool → Answer
+  by-width l = cond l (longOf t (it .quantity) v) (wordOf (it .quantity) (isB it) v)
 
-  word-when : isL it ≡ false → (leb 8 k && leb k 16) ≡ true → RefusedWhen (readingOf t it v) (thirteen it v)
-  unfolding wordOf
-  word-when one h =
-      let c = and-eq-true-iff (leb 8 k) (leb k 16) .0 h in
-      same-when (ap (λ (l : Bool). cond l (longOf t (it .quantity) v) (wordOf (it .quantity) (isB it) v)) one) (as-row (isB it) false refl one)
-      (each-at (ShortRow (isB it) v) 8 9 k (short-rows (isB it) v) (leb-true 8 k (c .0)) (omega (arith, leb-true k 16 (c .1))))
-
-  refused-when : T (wide it) → RefusedWhen (readingOf t it v) (thirteen it v)
-  refused-when h = by (isL it) refl (passed _ h)
+  refused-when : Wide it → RefusedWhen (readingOf t it v) (thirteen it v)
+  unfolding longOf wordOf
+  refused-when w = by (isL it) refl (w .apart)
     where
-      by : (l : Bool) → isL it ≡ l → wide it ≡ true → RefusedWhen (readingOf t it v) (thirteen it v)
-      by true e w = long-when e (sym (ap (λ (l : Bool). cond l (not (isB it) && (not (eqb k 8) && (leb 1 k && leb k 9))) (leb 8 k && leb k 16)) e) ∙ w)
-      by false e w = word-when e (sym (ap (λ (l : Bool). cond l (not (isB it) && (not (eqb k 8) && (leb 1 k && leb k 9))) (leb 8 k && leb k 16)) e) ∙ w)
+      by : (l : Bool) → isL it ≡ l → (l && isB it) ≡ false → RefusedWhen (readingOf t it v) (thirteen it v)
+      by true e byte =
+          let kinds = long-kinds it w e in
+          same-when (ap by-width e) (as-row false true byte e)
+          (each-at (LongRow t (it .quantity % 64) v) 1 9 k (long-rows t (it .quantity % 64) v) (w .least) (omega (arith, kinds .0)) (kinds .1))
+      by false e byte =
+          same-when (ap by-width e) (as-row (isB it) false refl e)
+          (each-at (ShortRow (isB it) v) 8 9 k (short-rows (isB it) v) (word-kinds it w e) (omega (arith, w .most)))
 
 -- ---- each answer is a reading of the kind it stands at, or the refusal
 
@@ -225,6 +201,6 @@ entry-kind (refused e) q f = absurd (never q (sym f ∙ e))
 
 pub thirteen-when : Thirteen
 thirteen-when = record {
-  refused = λ t i v h. refused-when t (getD directory i none) v (every-at wide directory directory-wide i h);
+  refused = λ t i v h. refused-when t (getD directory i none) v (wide-at i h);
   reads = λ t i v. entry-kind (item-entry t (getD directory i none) v);
 }

@@ -9,7 +9,6 @@ use lib.ListN.{length, getD}
 use Rattle.words.specs.Signed.{magnitudeIn}
 use Rattle.directory.specs.declared.Item.{Item}
 use Rattle.directory.specs.Item.{none}
-use Rattle.directory.specs.Quantity.{widthOf}
 use Rattle.directory.specs.Table.{directory}
 use Rattle.directory.specs.Run.{isL}
 use Rattle.reading.specs.declared.Quantity.{Quantity}

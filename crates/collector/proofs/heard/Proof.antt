@@ -1,7 +1,6 @@
 -- The length is tested for the two bytes that are looked at; the rest is the definition's.
-use mathlib.Core.Path.{_≡_, refl, sym, ap, _∙_}
+use mathlib.Core.Path.{sym}
 use native.Mathlib.Omega.{arith}
-use lib.Dec.{ltb}
 use lib.ListN.{length}
 use borrow.Author.Tests.{lt-ltb}
 use Rattle.modbus.specs.Frame.{addressOf, silence}

@@ -1,5 +1,5 @@
 -- The tests are the definition's own; the flat table, read four numbers at a time, is the directory.
-use mathlib.Core.Path.{_≡_, refl, sym, ap, _∙_}
+use mathlib.Core.Path.{refl, sym, _∙_}
 use native.Mathlib.Omega.{arith}
 use borrow.Author.Tests.{not-true, not-false}
 use Rattle.directory.specs.Item.{items}

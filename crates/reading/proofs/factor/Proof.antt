@@ -1,9 +1,7 @@
 -- The test is the definition's own.
-use mathlib.Core.Path.{_≡_, refl, sym, ap, _∙_}
 use native.Mathlib.Nat.{mul-le-mul}
 use native.Mathlib.Omega.{arith}
 use borrow.Author.Tests.{le-leb, lt-leb}
-use borrow.Author.Needs.{needs}
 use Rattle.reading.proofs.factor.Statement.{statement}
 use Rattle.reading.proofs.factor.Tie as tie
 

@@ -1,7 +1,4 @@
 -- The test is the definition's own.
-use mathlib.Core.Path.{_≡_, refl, sym, ap, _∙_}
-use native.Mathlib.Omega.{arith}
-use borrow.Author.Needs.{needs}
 use Rattle.reading.proofs.when.Statement.{statement}
 use Rattle.reading.proofs.when.Tie as tie
 

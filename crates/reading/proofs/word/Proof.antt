@@ -1,6 +1,5 @@
 -- The upper byte of a B first; then by kind: what each arm gives is what stands in the list.
-use mathlib.Core.Path.{_≡_, refl, sym, ap, _∙_}
-use native.Mathlib.Omega.{arith}
+use mathlib.Core.Path.{sym, ap, _∙_}
 use lib.Dec.{leb}
 use Rattle.signed.specs.declared.Signed.{Signed}
 use Rattle.reading.specs.declared.Quantity.the-variants.{Factor}

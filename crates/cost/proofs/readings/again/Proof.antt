@@ -1,7 +1,5 @@
 -- A thousand turns, one fewer left at each.
-use mathlib.Core.Path.{_≡_, refl, sym, ap, _∙_}
 use Prim.Native.Nat.{_≤_, _-_}
-use native.Mathlib.Omega.{arith}
 use borrow.Author.Needs.{needs}
 use Rattle.cost.proofs.readings.again.Statement.{statement}
 use Rattle.cost.proofs.readings.again.Tie as tie

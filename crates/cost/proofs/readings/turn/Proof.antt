@@ -1,7 +1,5 @@
 -- One item fewer left at each turn.
-use mathlib.Core.Path.{_≡_, refl, sym, ap, _∙_}
 use Prim.Native.Nat.{_≤_, _-_}
-use native.Mathlib.Omega.{arith}
 use borrow.Author.Needs.{needs}
 use Rattle.cost.proofs.readings.turn.Statement.{statement}
 use Rattle.cost.proofs.readings.turn.Tie as tie
