@@ -19,7 +19,7 @@ use Rattle.reading.specs.declared.Answer.{Answer}
 use Rattle.reading.specs.declared.Answer.the-variants.{Reading}
 use Rattle.reading.specs.Cases.{kindOf, told}
 use Rattle.reading.specs.Readings.{impossible, when, times, signedIn, unitOf, counted, longs, shorts, longOf, wordOf, isB, readingOf}
-use Rattle.reading.specs.Impossible.{oneOf, thirteen, Thirteen}
+use Rattle.reading.specs.Impossible.{oneOf, thirteen, ThirteenWhen}
 use Rattle.reading.proofs.ByKind.{Each, each-at}
 use Rattle.reading.proofs.Wide.{Wide, wide-at, long-kinds, word-kinds}
 
@@ -199,7 +199,7 @@ entry-kind : {k : ℕ} {a : Answer} → Entry k a → (q : Quantity) → a ≡ R
 entry-kind (reads x e h) q f = ap (λ (b : Answer). getD (told b) 1 0) (sym f ∙ e) ∙ h
 entry-kind (refused e) q f = absurd (never q (sym f ∙ e))
 
-pub thirteen-when : Thirteen
+pub thirteen-when : ThirteenWhen
 thirteen-when = record {
   refused = λ t i v h. refused-when t (getD directory i none) v (wide-at i h);
   reads = λ t i v. entry-kind (item-entry t (getD directory i none) v);

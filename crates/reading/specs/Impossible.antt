@@ -45,6 +45,6 @@ thirteen it v = oneOf (
     [])
 
 -- STATEMENT: an item of the directory is refused with 13 exactly when its value is in the row; else its reading is of its quantity's kind
-pub record Thirteen : Type 0 where
+pub record ThirteenWhen : Type 0 where
   pub refused : (t i v : ℕ) → i < length directory → (readingOf t (getD directory i none) v ≡ impossible) ↔ (thirteen (getD directory i none) v ≡ true)
   pub reads : (t i v : ℕ) (q : Quantity) → readingOf t (getD directory i none) v ≡ Reading q → kindOf q ≡ getD directory i none .quantity / 64
