@@ -70,15 +70,17 @@ itemOf t its reply index =
     cond (not (ltb index (length its))) (Refused IndexPastItems)
     (readingOf t (getD its index none) (valueAt (getD its index none .words) reply (placeOf its index)))
 
--- what a reply says to a read of some items, told T
+-- what a reply says to a read of some items, told T: the first that applies
 unfoldable pub replyOf : ℕ → List ℕ → List ℕ → List Item → ℕ → Answer
 replyOf t request reply its index =
+    -- 8, 9 (reply CRC wrong), 10
     cond (lengthWrong reply) (Refused ReplyLength)
-    -- 9. reply CRC wrong
     (cond (not (intact reply)) (Refused ReplyCrc)
     (cond (foreign request reply) (Refused ReplyForeign)
+    -- 11 or the error code
     (cond (isReadError reply) (errorOf reply)
     (cond (misfit request reply) (Refused ReplyMisfit)
+    -- 12, 13 or the reading
     (itemOf t its reply index)))))
 
 -- what the collector gives: the first that applies
@@ -86,5 +88,6 @@ unfoldable pub collectorOf : List ℕ → List ℕ → Ratios → ℕ → Answer
 collectorOf request reply r index =
     -- 3. KTA or KTV out of limits
     cond (not (ratiosOk r)) (Refused RatioOutOfLimits)
+    -- 7, then the reply
     (cond (not (heard request)) (Refused NotARead)
     (onItems (readIn directory request) (λ its. replyOf (tOf r) request reply its index)))

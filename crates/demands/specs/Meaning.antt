@@ -1,5 +1,5 @@
--- What each quantity of a meter's record is as a reading (paper 01, "Steps of the registers" and "Collector"): said of the record, with
--- no register between. The kinds and, within a kind, the quantities stand in the order of the directory's `Quantity`.
+-- What each quantity of a meter's record is as a reading (paper 01, "Steps of the registers" and "Collector"): said of the record and its
+-- ratios, with no bytes between. The kinds and, within a kind, the quantities stand in the order of the directory's `Quantity`.
 use mathlib.Core.Path.{_≡_}
 use Prim.Native.Nat.{ℕ, _*_, _/_, _%_, _<_}
 use mathlib.Core.Bool.{true, _&&_}
@@ -46,13 +46,15 @@ unfoldable pub countMeanings : Meter → List Quantity
 countMeanings m =
     map (λ (e : Energy). read.Energy (registerOf (meterT m) (e .wh)) (stepOf (meterT m)) (energyOf (meterT m) (registerOf (meterT m) (e .wh) .0))) (energiesOf m)
 
--- Low, High, wrap
+-- Low
 unfoldable pub lowMeanings : Meter → List Quantity
 lowMeanings m = map (λ (e : Energy). read.Low (lowOf (e .wh))) (energiesOf m)
 
+-- High
 unfoldable pub highMeanings : Meter → List Quantity
 highMeanings m = map (λ (e : Energy). read.High (highOf (e .wh))) (energiesOf m)
 
+-- wrap
 unfoldable pub wrapMeanings : Meter → List Quantity
 wrapMeanings m = map (λ (e : Energy). read.Wrap (wrapOf (meterT m) (e .wh))) (energiesOf m)
 
