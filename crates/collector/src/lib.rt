@@ -11,8 +11,6 @@ ghost use Rattle.modbus.specs.Read.{readIn};
 ghost use Rattle.collector.specs.Collector.{heard, onItems, errorOf, itemOf, replyOf, collectorOf};
 use directory::Span;
 use directory::table;
-use refusal::ErrorCode;
-use refusal::Refusal;
 
 // The whole face stands here: beside `read` its answers, and the joins with their refusals.
 pub use ratio::Count;
@@ -23,6 +21,9 @@ pub use ratio::join;
 pub use ratio::join_halves;
 pub use reading::Answer;
 pub use reading::Quantity;
+pub use refusal::ErrorCode;
+pub use refusal::Refusal;
+pub use signed::Signed;
 
 // The function of an error reply to a read.
 const READ_ERROR: u8 = modbus::READ + modbus::ERROR;

@@ -10,7 +10,9 @@ pub fn examples() {
     of_003();
     of_004();
     of_001();
+    misprints();
     of_01();
+    run_end();
 }
 
 // A frame as it is printed: the CRC that the rule gives, and whether it is the printed one.
@@ -28,7 +30,7 @@ fn frame(name: &[u8], f: &[u8]) {
     } else {
         say::text(b", printed");
         say::bytes(&f[n - 2..]);
-        say::text(b"\n");
+        say::end();
     }
 }
 
@@ -63,7 +65,7 @@ fn reply(bytes: &[u8], due: &[u8], verdict: &[u8]) {
     } else {
         say::text(b" instead of");
         say::bytes(due);
-        say::text(b"\n");
+        say::end();
     }
 }
 
@@ -113,8 +115,7 @@ fn of_004() {
     );
 }
 
-// 001's answer of 0x2000 has 16 words, in spite of the 16 BYTES beside its table. Of the answers of 0x2200, 001's shows 25
-// words where its byte number says 24, and 000's has the last two the other way round. A meter that was sent the words
+// 001's answer of 0x2000 has 16 words, in spite of the 16 BYTES beside its table. A meter that was sent the words of 0x2200
 // answers 24, with the printed CRC.
 fn of_001() {
     let m = with_setup(new(0xFF));
@@ -132,6 +133,11 @@ fn of_001() {
         b"001 answer of 0x2200, 24 words",
         b"\xFF\x03\x30\x00\x00\x00\x00\x00\x00\x00\x00\x00\x00\x00\x00\x00\x00\x00\x00\x00\x00\x00\x00\x00\x00\x00\x00\x00\x00\x00\x00\x00\x00\x00\x00\x00\x00\x00\x00\x00\x00\x00\x00\x00\x00\x00\x00\x00\x02\x00\x01\x6D\xC1",
     );
+}
+
+// Of the answers of 0x2200 as they are printed, 001's shows 25 words where its byte number says 24, and 000's has the last two
+// the other way round.
+fn misprints() {
     frame(
         b"001 answer of 0x2200, 25 words",
         b"\xFF\x03\x30\x00\x00\x00\x00\x00\x00\x00\x00\x00\x00\x00\x00\x00\x00\x00\x00\x00\x00\x00\x00\x00\x00\x00\x00\x00\x00\x00\x00\x00\x00\x00\x00\x00\x00\x00\x00\x00\x00\x00\x00\x00\x00\x00\x00\x00\x00\x00\x02\x00\x01\x6D\xC1",
@@ -160,8 +166,7 @@ fn with_setup(m: Meter) -> Meter {
     )
 }
 
-// Paper 01's reads, of a new meter: sector and sequence; half an L; the second voltage looked for in words; the three words
-// that end a run, and one more.
+// Paper 01's reads, of a new meter: sector and sequence; half an L; the second voltage looked for in words.
 fn of_01() {
     read(
         b"2 words from 0x033f",
@@ -178,6 +183,10 @@ fn of_01() {
         b"\x01\x03\x03\x03\x00\x02\x34\x4F",
         b"\x01\x83\x02\xC0\xF1",
     );
+}
+
+// The three words that end a run, and one more.
+fn run_end() {
     read(
         b"3 words from 0x034d",
         b"\x01\x03\x03\x4D\x00\x03\x95\x98",

@@ -46,7 +46,7 @@ fn three_phases() {
         ea.wh.0,
     );
     say::field(b" Wh, remainder ", ea.remainder as u64);
-    say::text(b"\n");
+    say::end();
 }
 
 fn power(name: &[u8], hundredths: i64) {
@@ -101,7 +101,7 @@ fn show(m: Meter, quantities: &[u16]) {
         say::hex(registers::shown(m, quantities[i]) as u64, 8);
         i += 1;
     }
-    say::text(b"\n");
+    say::end();
 }
 
 // Each refusal of a new meter and of a sample, once.
@@ -111,26 +111,29 @@ pub fn refusals() {
         Meter::new(0, Ratios { kta: 0, ktv: 10 }),
     );
     answer(b"address 0", Meter::new(0, Ratios { kta: 1, ktv: 10 }));
+    out_of_limits();
+    least();
+    past_top();
+}
+
+// A record, and a sample.
+fn out_of_limits() {
     let mut full = new();
     full.active.positive.remainder = 360_000;
     answer(b"a remainder of 360000", full.after(full.latest));
     let mut odd = new().latest;
     odd.sector = 3;
     answer(b"a sector of 3", new().after(odd));
-    least();
-    past_top();
 }
 
 fn answer(name: &[u8], a: Answered) {
     say::text(name);
     let answer = a.answer;
     match answer {
-        Answer::Accepted => say::text(b": accepted\n"),
-        Answer::Refused(r) => {
-            say::field(b": refused ", r.number() as u64);
-            say::text(b"\n");
-        }
+        Answer::Accepted => say::text(b": accepted"),
+        Answer::Refused(r) => say::field(b": refused ", r.number() as u64),
     }
+    say::end();
 }
 
 // The least number of 64 bits, in each phase.

@@ -15,6 +15,10 @@ pub fn field(name: &[u8], n: u64) {
     number(n);
 }
 
+pub fn end() {
+    text(b"\n");
+}
+
 // A number in hexadecimal, at least `width` digits.
 pub fn hex(n: u64, width: usize) {
     io::print_hex(STDOUT_FILENO, n, width);

@@ -24,11 +24,11 @@ slice-aggregate-text c = search needs
 text-requires-2 : tie.Need-text-requires-2
 text-requires-2 c κs = search needs
 
-cast-t18 : tie.Need-cast-t18
-cast-t18 c = search needs
+cast-t17 : tie.Need-cast-t17
+cast-t17 c = search needs
 
-cast-t20 : tie.Need-cast-t20
-cast-t20 c = search needs
+cast-t19 : tie.Need-cast-t19
+cast-t19 c = search needs
 
 slice-aggregate-bytes : tie.Need-slice-aggregate-bytes
 slice-aggregate-bytes c = search needs
@@ -63,11 +63,8 @@ part-bytes-end c = search needs
 bytes-requires-2 : tie.Need-bytes-requires-2
 bytes-requires-2 c κs = search needs
 
-slice-aggregate-text-4 : tie.Need-slice-aggregate-text-4
-slice-aggregate-text-4 c = search needs
-
-text-requires-5 : tie.Need-text-requires-5
-text-requires-5 c κs = search needs
+end-requires : tie.Need-end-requires
+end-requires c κs = search needs
 
 returns-2 : tie.Need-returns-2
 returns-2 c = search needs
@@ -85,8 +82,8 @@ frame-spec =
     text-requires
     slice-aggregate-text
     text-requires-2
-    cast-t18
-    cast-t20
+    cast-t17
+    cast-t19
     slice-aggregate-bytes
     bytes-requires
     intact-requires
@@ -98,7 +95,6 @@ frame-spec =
     part-bytes-start
     part-bytes-end
     bytes-requires-2
-    slice-aggregate-text-4
-    text-requires-5
+    end-requires
     returns-2
     returns-3)

@@ -8,10 +8,10 @@ use Rattle.vectors.proofs.meters.show.Statement.{statement}
 use Rattle.vectors.proofs.meters.show.Tie as tie
 
 abbrev Inv-loop : tie.InvT-loop
-Inv-loop m quantities i₀ t4 t5 i = i ≤ length quantities
+Inv-loop m quantities i₀ t4 i = i ≤ length quantities
 
 abbrev μ-loop : tie.MeasureT-loop
-μ-loop m quantities i₀ t4 t5 i = length quantities - i
+μ-loop m quantities i₀ t4 i = length quantities - i
 
 within-requires : tie.Need-within-requires Inv-loop μ-loop
 within-requires c κs = search needs
@@ -54,11 +54,8 @@ loop-less c = search needs
 loop-again : tie.Need-loop-again Inv-loop μ-loop
 loop-again c = search needs
 
-slice-aggregate-text-2 : tie.Need-slice-aggregate-text-2 Inv-loop μ-loop
-slice-aggregate-text-2 c = search needs
-
-text-requires-2 : tie.Need-text-requires-2 Inv-loop μ-loop
-text-requires-2 c κs = search needs
+end-requires : tie.Need-end-requires Inv-loop μ-loop
+end-requires c κs = search needs
 
 returns-2 : tie.Need-returns-2 Inv-loop μ-loop
 returns-2 c = search needs
@@ -82,6 +79,5 @@ show-spec =
     add-i
     loop-less
     loop-again
-    slice-aggregate-text-2
-    text-requires-2
+    end-requires
     returns-2)
