@@ -58,15 +58,20 @@ pub record Fits (request reply : List ℕ) (r : Ratios) : Type 0 where
   pub words : isReadError reply ≡ false
   pub fits : misfit request reply ≡ false
 
+-- what was asked for, of a reply that fits
+abbrev pub askedBy : {request reply : List ℕ} {r : Ratios} → Fits request reply r → Asks request
+askedBy fits = fits .hears .asked .asks
+
 -- and 12
 pub record Holds (request reply : List ℕ) (r : Ratios) (index : ℕ) : Type 0 where
   pub fits : Fits request reply r
-  pub below : index < fits .hears .asked .asks .count
+  pub below : index < askedBy fits .count
 
--- the item asked, and the value of its words
+-- the item of an index
 abbrev pub itemAt : {request : List ℕ} → Asks request → ℕ → Item
 itemAt asks index = getD directory (asks .first + index) none
 
+-- the value of its words in the reply
 abbrev pub valueIn : {request : List ℕ} → Asks request → List ℕ → ℕ → ℕ
 valueIn asks reply index = valueAt (itemAt asks index .words) reply (placeOf (runItems directory (asks .first) (asks .count)) index)
 
@@ -77,12 +82,12 @@ errorMisfit reply = not (eqb (length reply) 5) || (ltb (thirdOf reply) 1 || ltb 
 -- 12: index not below the number of items
 pub record Past (request reply : List ℕ) (r : Ratios) (index : ℕ) : Type 0 where
   pub fits : Fits request reply r
-  pub past : fits .hears .asked .asks .count ≤ index
+  pub past : askedBy fits .count ≤ index
 
 -- 13: value impossible
 pub record Impossible (request reply : List ℕ) (r : Ratios) (index : ℕ) : Type 0 where
   pub holds : Holds request reply r index
-  pub value : thirteen (itemAt (holds .fits .hears .asked .asks) index) (valueIn (holds .fits .hears .asked .asks) reply index) ≡ true
+  pub value : thirteen (itemAt (askedBy (holds .fits)) index) (valueIn (askedBy (holds .fits)) reply index) ≡ true
 
 -- the rows of the table, in the paper's reading order: first that applies
 abbrev pub Row : Refusal → List ℕ → List ℕ → Ratios → ℕ → Type 0
@@ -112,7 +117,7 @@ pub record Errs (request reply : List ℕ) (r : Ratios) (code : ErrorCode) : Typ
 -- the reading of the item asked
 pub record Reads (request reply : List ℕ) (r : Ratios) (index : ℕ) (q : Quantity) : Type 0 where
   pub holds : Holds request reply r index
-  pub reading : readingOf (tOf r) (itemAt (holds .fits .hears .asked .asks) index) (valueIn (holds .fits .hears .asked .asks) reply index) ≡ Reading q
+  pub reading : readingOf (tOf r) (itemAt (askedBy (holds .fits)) index) (valueIn (askedBy (holds .fits)) reply index) ≡ Reading q
 
 -- STATEMENT: each refusal, each error code and each reading is given exactly when its row or rule says
 pub record ExactlyWhen : Type 0 where
