@@ -52,24 +52,11 @@ fn value(a: Answer) -> u64 {
     }
 }
 
-// So that no reading goes unused.
+// Of the others it is enough to know that they were read.
 fn first_of(q: Quantity) -> u64 {
     match q {
-        Quantity::Voltage(v) => v as u64,
-        Quantity::Current(v) => v as u64,
-        Quantity::Power(v) => v,
-        Quantity::SignedPower(s) => s.magnitude,
         Quantity::Energy { count, step, wh } => count.0 as u64 | step as u64 | wh.0,
-        Quantity::Low(v) => v as u64,
-        Quantity::High(v) => v as u64,
-        Quantity::Wrap(v) => v as u64,
-        Quantity::Factor(s) => s.magnitude,
-        Quantity::Sign(v) => v as u64,
-        Quantity::Sector(v) => v as u64,
-        Quantity::Frequency(v) => v as u64,
-        Quantity::Kta(v) => v as u64,
-        Quantity::Ktv(v) => v as u64,
-        Quantity::Sequence(v) => v as u64,
         Quantity::Plain(v) => v as u64,
+        _ => 1,
     }
 }
