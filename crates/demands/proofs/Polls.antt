@@ -1,6 +1,6 @@
 -- A reply to a read is a data reply: as long as it says, with its CRC, and with each item's words where the collector looks for them.
 use mathlib.Core.Path.{_≡_, refl, sym, ap, _∙_}
-use mathlib.Core.Bool.{Bool, true, false, not, false≢true, and-eq-true-iff}
+use mathlib.Core.Bool.{true, false, not, false≢true, and-eq-true-iff}
 use mathlib.Core.List.{List, [], _∷_, _++_, append-assoc}
 use Prim.Native.Nat.{ℕ, zero, suc, _+_, _*_, _^_, _≤_, _<_}
 use native.Mathlib.Nat.{lt-of-lt-of-le, pow-le-pow-right}
@@ -39,6 +39,7 @@ use Rattle.registers.specs.Cases.{Typed}
 use Rattle.registers.proofs.Widths.{every-case}
 use Rattle.reading.specs.declared.Answer.the-variants.{Reading, Error, Refused}
 use Rattle.reading.specs.Readings.{readingOf}
+use Rattle.reading.proofs.Wide.{passed}
 use Rattle.board.specs.Reads.{itemsSent}
 use Rattle.board.specs.Board.{Outcome}
 use Rattle.board.specs.Answers.{Answers}
@@ -71,10 +72,6 @@ two-bytes zero h = refl
 two-bytes (suc zero) h = refl
 two-bytes (suc (suc zero)) h = refl
 two-bytes (suc (suc (suc n))) h = absurd (omega (arith, h))
-
-passed : (x : Bool) → T x → x ≡ true
-passed true h = refl
-passed false h = absurd h
 
 -- what an item shows fits its words
 directory-roomy : T (every (λ (it : Item). leb (roomOf it) (2 * it .words)) directory)

@@ -84,6 +84,14 @@ module _ (t w v : ℕ) where
     ),
   )
 
+  pub no-long : (k : ℕ) → NoLong k
+  no-long k = by (ltb k 10) refl
+    where
+      by : (b : Bool) → ltb k 10 ≡ b → NoLong k
+      by true e = each-at NoLong 0 10 k no-longs (omega arith) (ltb-true k 10 e)
+      by false e = λ h. List·getD-eq-default (longs t w v) impossible (ltb-false k 10 e)
+
+module _ (v : ℕ) where
   abbrev NoShort : ℕ → Type 0
   NoShort k = Not inShorts k → getD (shorts v) k impossible ≡ impossible
 
@@ -135,13 +143,6 @@ module _ (t w v : ℕ) where
     ),
   )
 
-  pub no-long : (k : ℕ) → NoLong k
-  no-long k = by (ltb k 10) refl
-    where
-      by : (b : Bool) → ltb k 10 ≡ b → NoLong k
-      by true e = each-at NoLong 0 10 k no-longs (omega arith) (ltb-true k 10 e)
-      by false e = λ h. List·getD-eq-default (longs t w v) impossible (ltb-false k 10 e)
-
   pub no-short : (k : ℕ) → NoShort k
   no-short k = by (ltb k 17) refl
     where
@@ -155,7 +156,7 @@ long-none t q v h = no-long t (q % 64) v (q / 64) h
 
 pub word-none : (q : ℕ) (b : Bool) (v : ℕ) → (b && leb 256 v) ≡ false → Not inShorts (q / 64) → wordOf q b v ≡ impossible
 unfolding wordOf
-word-none q b v h none = ap (λ (t : Bool). cond t impossible (getD (shorts v) (q / 64) impossible)) h ∙ no-short 0 0 v (q / 64) none
+word-none q b v h none = ap (λ (t : Bool). cond t impossible (getD (shorts v) (q / 64) impossible)) h ∙ no-short v (q / 64) none
 
 pub word-upper : (q : ℕ) (b : Bool) (v : ℕ) → (b && leb 256 v) ≡ true → wordOf q b v ≡ impossible
 unfolding wordOf

@@ -39,9 +39,6 @@ reads-when : (possible x : Bool) (q : Quantity) → x ≡ not possible → Refus
 reads-when true x q e = (λ h. absurd (never q h), λ h. absurd (false≢true (sym e ∙ h)))
 reads-when false x q e = (λ h. e, λ h. refl)
 
-reads-never : (x : Bool) → x ≡ true → RefusedWhen impossible x
-reads-never x e = (λ h. e, λ h. refl)
-
 upper : (u x : Bool) (a : Answer) → RefusedWhen a x → RefusedWhen (cond u impossible a) (u || x)
 upper true x a h = (λ g. refl, λ g. refl)
 upper false x a h = h

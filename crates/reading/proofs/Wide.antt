@@ -38,7 +38,7 @@ pub record Wide (it : Item) : Type 0 where
   pub least : 1 ≤ it .quantity / 64
   pub most : it .quantity / 64 ≤ 16
 
-passed : (x : Bool) → T x → x ≡ true
+pub passed : (x : Bool) → T x → x ≡ true
 passed true h = refl
 passed false h = absurd h
 
