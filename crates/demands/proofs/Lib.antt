@@ -1,2 +1,4 @@
 pub mod Shown
 pub mod Polls
+pub mod Histories
+pub mod Demand3

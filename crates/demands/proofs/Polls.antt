@@ -35,8 +35,7 @@ use Rattle.meter.specs.Meters.{meterT}
 use Rattle.meter.proofs.Parts.{meter-parts}
 use Rattle.store.proofs.Verdicts.{write-when}
 use Rattle.registers.specs.Shown.{shownOf}
-use Rattle.registers.specs.Cases.{Typed}
-use Rattle.registers.proofs.Widths.{every-case}
+use Rattle.registers.proofs.Widths.{Shows, in-room, typed-shows}
 use Rattle.reading.specs.declared.Answer.the-variants.{Reading, Error, Refused}
 use Rattle.reading.specs.Readings.{readingOf}
 use Rattle.reading.proofs.Wide.{passed}
@@ -54,7 +53,7 @@ use Rattle.collector.specs.Answers.{Asks, Asked, Fits, itemAt, valueIn}
 use Rattle.collector.proofs.Places.{run-length, run-at}
 use Rattle.collector.proofs.Answers.{exactly-when}
 use Rattle.demands.specs.Meaning.{meaningOf}
-use Rattle.demands.proofs.Shown.{shown-is-read}
+use Rattle.demands.proofs.Shown.{item-read}
 use Rattle.demands.specs.RoundTrip.{replyIn, replyTo, Meets, WithData, RoundTrip}
 
 -- ---- the words of an item, among those of a run
@@ -153,7 +152,7 @@ module _ (m : Meter) (request b : List ℕ) (meets : Meets m request b) (a : Ask
 
   -- ---- item by item
 
-  module _ (typed : Typed m) (index : ℕ) (below : index < a .count) where
+  module _ (index : ℕ) (below : index < a .count) where
     abbrev it : Item
     it = itemAt a index
 
@@ -163,14 +162,14 @@ module _ (m : Meter) (request b : List ℕ) (meets : Meets m request b) (a : Ask
     known : a .first + index < length directory
     known = omega (arith, inside, below)
 
-    fitting-words : shownOf m (it .quantity) < 65536 ^ it .words
-    fitting-words =
+    fitting-words : Shows m (it .quantity) → shownOf m (it .quantity) < 65536 ^ it .words
+    fitting-words fit =
         let room = leb-true (roomOf it) (2 * it .words) (passed _ (every-at (λ (x : Item). leb (roomOf x) (2 * x .words)) directory directory-roomy (a .first + index) known)) in
         let narrow = ruled-narrow directory directory-ruled (a .first + index) known in
-        rw (sym (two-bytes (it .words) (narrow .few))) (lt-of-lt-of-le (every-case .room m typed (meets .within) (a .first + index) known) (pow-le-pow-right (omega arith) room))
+        rw (sym (two-bytes (it .words) (narrow .few))) (lt-of-lt-of-le (in-room (a .first + index) known (fit .fits)) (pow-le-pow-right (omega arith) room))
 
-    value-back : valueIn a reply index ≡ shownOf m (it .quantity)
-    value-back =
+    value-back : Shows m (it .quantity) → valueIn a reply index ≡ shownOf m (it .quantity)
+    value-back fit =
         let v = shownOf m (it .quantity) in
         let before = addressOf request ∷ functionOf request ∷ 2 * numberOf request ∷ itemsSent m (take index its) in
         let after = itemsSent m (drop (suc index) its) in
@@ -186,16 +185,20 @@ module _ (m : Meter) (request b : List ℕ) (meets : Meets m request b) (a : Ask
         let here : placeOf its index ≡ length before = omega (arith, length-items m (take index its)) in
         ap (λ (at : ℕ). valueAt (it .words) reply at) here
         ∙ ap (λ (l : List ℕ). valueAt (it .words) l (length before)) whole
-        ∙ read-back .between (it .words) v before (after ++ crc) fitting-words
+        ∙ read-back .between (it .words) v before (after ++ crc) (fitting-words fit)
 
-    pub reads : collectorOf request reply (m .ratios) index ≡ Reading (meaningOf m (it .quantity))
+    reads : Shows m (it .quantity) → collectorOf request reply (m .ratios) index ≡ Reading (meaningOf m (it .quantity))
     unfolding fits
-    reads =
+    reads fit =
         exactly-when .reading request reply (m .ratios) index (meaningOf m (it .quantity)) .1
         (record {
           holds = record { fits = fits; below = below };
-          reading = ap (readingOf (meterT m) it) value-back ∙ shown-is-read .items m typed (meets .within) (a .first + index) known;
+          reading = ap (readingOf (meterT m) it) (value-back fit) ∙ item-read m (meets .within) (a .first + index) known fit;
         })
+
+    -- through the bytes of the reply
+    pub collects : Shows m (it .quantity) → collectorOf request (replyTo m request b) (m .ratios) index ≡ Reading (meaningOf m (it .quantity))
+    collects fit = ap (λ (x : List ℕ). collectorOf request x (m .ratios) index) replies ∙ reads fit
 
   pub past : (index : ℕ) → a .count ≤ index → collectorOf request reply (m .ratios) index ≡ Refused IndexPastItems
   unfolding fits
@@ -272,7 +275,7 @@ with-data = record { same = λ m request b meets. (λ a. ap isRead (replies m re
 
 pub round-trip : RoundTrip
 round-trip = record {
-  reads = λ m request b index typed meets a below. ap (λ (reply : List ℕ). collectorOf request reply (m .ratios) index) (replies m request b meets a) ∙ reads m request b meets a typed index below;
+  reads = λ m request b index typed meets a below. collects m request b meets a index below (typed-shows m typed (meets .within) (a .first + index) (known m request b meets a index below));
   past = λ m request b index meets a over. ap (λ (reply : List ℕ). collectorOf request reply (m .ratios) index) (replies m request b meets a) ∙ past m request b meets a index over;
   error = error-given;
   other = λ m request b reply r index meets ok h. exactly-when .refused request reply r index NotARead .1 (ok, λ a. false≢true (sym h ∙ with-data .same m request b meets .0 a));

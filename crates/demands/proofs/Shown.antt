@@ -28,9 +28,8 @@ use Rattle.meter.specs.Histories.{energyAt}
 use Rattle.meter.proofs.Tests.{both}
 use Rattle.meter.proofs.Parts.{SampleParts, sample-parts, meter-parts}
 use Rattle.registers.specs.Shown.{powersOf, powerAt, powerValues, signedValues, signValues, countValues, lowValues, highValues, wrapValues, factorValues, plainValues, valuesOf, shownOf}
-use Rattle.registers.specs.Cases.{Typed}
 use Rattle.registers.proofs.Values.{count-at, low-at, high-at, energy-most, signed-at, sign-at, power-most}
-use Rattle.registers.proofs.Widths.{every-case}
+use Rattle.registers.proofs.Widths.{Shows, in-room, typed-shows}
 use Rattle.reading.specs.declared.Quantity.{Quantity}
 use Rattle.reading.specs.declared.Quantity.the-variants as read
 use Rattle.reading.specs.declared.Answer.{Answer}
@@ -61,7 +60,7 @@ possible : {b : Bool} {q : Quantity} → b ≡ true → when b q ≡ Reading q
 possible {b} {q} h = ap (λ (t : Bool). when t q) h
 
 -- what is mapped over a list, within it
-mapped : {A B : Type 0} (f : A → B) (l : List A) (d : A) (e : B) (i : ℕ) → i < length l → getD (map f l) i e ≡ f (getD l i d)
+pub mapped : {A B : Type 0} (f : A → B) (l : List A) (d : A) (e : B) (i : ℕ) → i < length l → getD (map f l) i e ≡ f (getD l i d)
 mapped f [] d e i h = absurd (omega arith)
 mapped f (x ∷ l) d e zero h = refl
 mapped f (x ∷ l) d e (suc i) h = mapped f l d e i (omega arith)
@@ -186,20 +185,22 @@ module _ (m : Meter) (h : meterOk m ≡ true) where
 
 -- ---- and so for the items of the directory
 
-items : (m : Meter) → Typed m → meterOk m ≡ true → (i : ℕ) → i < length directory → readingOf (meterT m) (getD directory i none) (shownOf m (getD directory i none .quantity)) ≡ Reading (meaningOf m (getD directory i none .quantity))
-unfolding shownOf meaningOf
-items m typed ok i l =
-    let it = getD directory i none in
-    let q = it .quantity in
-    let v = shownOf m q in
-    let case = every-case .case m typed ok q (every-case .known i l) in
-    let inside : 17 ≤ q / 64 → ⊥ = λ beyond. omega (arith, ap length (List·getD-eq-default (valuesOf m) [] beyond)) in
-    rw (
-      wide-at i l .words,
-      long-kind (meterT m) q v (q / 64) (omega arith),
-      word-kind q (isB it) v (q / 64) (upper-clear it v (every-case .room m typed ok i l)) (omega arith),
-    )
-    (each-at (ReadKind m) 0 17 (q / 64) (kinds-read m ok) zero-le (omega arith) (q % 64) case)
+module _ (m : Meter) (ok : meterOk m ≡ true) (i : ℕ) (l : i < length directory) where
+  abbrev it : Item
+  it = getD directory i none
+
+  pub item-read : Shows m (it .quantity) → readingOf (meterT m) it (shownOf m (it .quantity)) ≡ Reading (meaningOf m (it .quantity))
+  unfolding shownOf meaningOf
+  item-read shows =
+      let q = it .quantity in
+      let v = shownOf m q in
+      let inside : 17 ≤ q / 64 → ⊥ = λ beyond. omega (arith, shows .case, ap length (List·getD-eq-default (valuesOf m) [] beyond)) in
+      rw (
+        wide-at i l .words,
+        long-kind (meterT m) q v (q / 64) (omega arith),
+        word-kind q (isB it) v (q / 64) (upper-clear it v (in-room i l (shows .fits))) (omega arith),
+      )
+      (each-at (ReadKind m) 0 17 (q / 64) (kinds-read m ok) zero-le (omega arith) (q % 64) (shows .case))
 
 pub shown-is-read : ShownIsRead
-shown-is-read = record { items = items }
+shown-is-read = record { items = λ m typed ok i l. item-read m ok i l (typed-shows m typed ok i l) }

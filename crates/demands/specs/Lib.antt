@@ -1,2 +1,4 @@
 pub mod Meaning
 pub mod RoundTrip
+pub mod Histories
+pub mod Demand3

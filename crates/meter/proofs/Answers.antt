@@ -27,7 +27,6 @@ use Rattle.meter.specs.Samples.{threeOf, sampleOk, noSample}
 use Rattle.meter.specs.Energies.{energyOk, energiesOk, plusOf, withPower, belowTop}
 use Rattle.meter.specs.Meters.{meterT, setupWithin, meterOk, blankOf, refusedOf, acceptedOf, newOf}
 use Rattle.meter.specs.After.{nextOf, meterBelowTop, afterOf}
-use Rattle.meter.specs.Histories.{afterAll}
 use Rattle.meter.specs.Answers.{NewAnswers, SampleAnswers, StaysWithin, withSetup, SetupIdle}
 use Rattle.meter.proofs.Tests.{both, never}
 use Rattle.meter.proofs.Parts.{meter-parts}
@@ -112,13 +111,8 @@ sample : (m : Meter) (s : Sample) → meterOk m ≡ true → meterOk (afterOf m 
 unfolding afterOf
 sample m s h = kept (meterOk m) (sampleOk (meterT m) s) (meterBelowTop (nextOf m s)) m (nextOf m s) h (next-within m s)
 
-samples : (m : Meter) (ss : List Sample) → meterOk m ≡ true → meterOk (afterAll m ss) ≡ true
-unfolding afterAll
-samples m [] h = h
-samples m (s ∷ ss) h = samples (afterOf m s .meter) ss (sample m s h)
-
 pub stays-within : StaysWithin
-stays-within = record { sample = sample; samples = samples }
+stays-within = record { sample = sample }
 
 -- ---- a new meter
 

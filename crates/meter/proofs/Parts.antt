@@ -111,7 +111,7 @@ meter-parts m h =
 pub energy-top : (e : Energy) → energyOk e ≡ true → e .wh .0 ≤ topWh
 energy-top e h = leb-true _ _ (both (leb (e .wh .0) topWh) (leb (e .remainder) 359999) h .0)
 
-energy-rest : (e : Energy) → energyOk e ≡ true → e .remainder ≤ 359999
+pub energy-rest : (e : Energy) → energyOk e ≡ true → e .remainder ≤ 359999
 energy-rest e h = leb-true _ _ (both (leb (e .wh .0) topWh) (leb (e .remainder) 359999) h .1)
 
 pub zero-to-neither : ZeroToNeither

@@ -1,7 +1,6 @@
 -- An energy is what it was plus what is carried for it: sample by sample, by one law for the four.
-use mathlib.Core.Path.{_≡_, refl, ap}
+use mathlib.Core.Path.{_≡_, refl, ap, _∙_}
 use mathlib.Core.Bool.{Bool, true, false, cond}
-use mathlib.Core.List.{List, [], _∷_}
 use Prim.Native.Nat.{ℕ, zero, suc, _+_}
 use native.Mathlib.Omega.{arith}
 use Rattle.ratio.specs.declared.Ratios.{Ratios}
@@ -12,7 +11,7 @@ use Rattle.meter.specs.Samples.{sampleOk}
 use Rattle.meter.specs.Energies.{plusOf, valueOf}
 use Rattle.meter.specs.Meters.{meterT, meterOk, blankOf, newOf}
 use Rattle.meter.specs.After.{nextOf, meterBelowTop, afterOf}
-use Rattle.meter.specs.Histories.{energyAt, carriesFor, isAccepted, afterAll, exactOf, EnergyIsSum}
+use Rattle.meter.specs.Histories.{energyAt, carriesFor, isAccepted, addedBy, EnergyIsSum}
 use Rattle.meter.proofs.Cases.{chosen}
 use Rattle.meter.proofs.Answers.{new-blank}
 
@@ -35,14 +34,9 @@ picked-adds true true false e m s = omega arith
 picked-adds true false c e m s = omega arith
 picked-adds false b c e m s = omega arith
 
-after-adds : (e : ℕ) (m : Meter) (s : Sample) → valueOf (energyAt e (afterOf m s .meter)) ≡ valueOf (energyAt e m) + cond (isAccepted (afterOf m s .answer)) (carriesFor e s) 0
+after-adds : (e : ℕ) (m : Meter) (s : Sample) → valueOf (energyAt e (afterOf m s .meter)) ≡ valueOf (energyAt e m) + addedBy e m s
 unfolding afterOf
 after-adds e m s = picked-adds (meterOk m) (sampleOk (meterT m) s) (meterBelowTop (nextOf m s)) e m s
-
-grows : (e : ℕ) (m : Meter) (ss : List Sample) → valueOf (energyAt e (afterAll m ss)) ≡ valueOf (energyAt e m) + exactOf e m ss
-unfolding afterAll exactOf
-grows e m [] = omega arith
-grows e m (s ∷ ss) = omega (arith, grows e (afterOf m s .meter) ss, after-adds e m s)
 
 blank-zero : (e a : ℕ) (r : Ratios) → valueOf (energyAt e (blankOf a r)) ≡ 0
 blank-zero zero a r = refl
@@ -51,8 +45,8 @@ blank-zero (suc (suc zero)) a r = refl
 blank-zero (suc (suc (suc zero))) a r = refl
 blank-zero (suc (suc (suc (suc e)))) a r = refl
 
-from-new : (e a : ℕ) (r : Ratios) (ss : List Sample) → valueOf (energyAt e (afterAll (newOf a r .meter) ss)) ≡ exactOf e (newOf a r .meter) ss
-from-new e a r ss = omega (arith, grows e (newOf a r .meter) ss, ap (λ (m : Meter). valueOf (energyAt e m)) (new-blank a r), blank-zero e a r)
-
 pub energy-is-sum : EnergyIsSum
-energy-is-sum = record { grows = grows; from-new = from-new }
+energy-is-sum = record {
+  starts = λ e a r. ap (λ (m : Meter). valueOf (energyAt e m)) (new-blank a r) ∙ blank-zero e a r;
+  grows = after-adds;
+}

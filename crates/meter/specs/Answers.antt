@@ -14,7 +14,6 @@ use Rattle.meter.specs.declared.Meter.{Meter}
 use Rattle.meter.specs.Samples.{sampleOk}
 use Rattle.meter.specs.Meters.{meterT, setupWithin, meterOk, newOf}
 use Rattle.meter.specs.After.{nextOf, meterBelowTop, afterOf}
-use Rattle.meter.specs.Histories.{afterAll}
 
 -- STATEMENT: a new meter is refused with 3 and with 4 exactly when, and accepted exactly when its record is within limits
 pub record NewAnswers : Type 0 where
@@ -31,10 +30,9 @@ pub record SampleAnswers : Type 0 where
   pub refused : (m : Meter) (s : Sample) (reason : Refusal) → afterOf m s .answer ≡ Refused reason → afterOf m s .meter ≡ m
   pub counted : (m : Meter) (s : Sample) → afterOf m s .answer ≡ Accepted → afterOf m s .meter ≡ nextOf m s
 
--- STATEMENT: samples keep a record within limits
+-- STATEMENT: a sample keeps a record within limits
 pub record StaysWithin : Type 0 where
   pub sample : (m : Meter) (s : Sample) → meterOk m ≡ true → meterOk (afterOf m s .meter) ≡ true
-  pub samples : (m : Meter) (ss : List Sample) → meterOk m ≡ true → meterOk (afterAll m ss) ≡ true
 
 -- a meter with other setup words
 abbrev pub withSetup : Meter → List ℕ → List ℕ → Meter

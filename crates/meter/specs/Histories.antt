@@ -1,4 +1,4 @@
--- Demand 3's ground: what the energies of a meter come to after any samples, refused ones among them.
+-- Demand 3's ground: the four energies of a meter, and what each sample adds to them.
 use mathlib.Core.Path.{_≡_}
 use Prim.Native.Nat.{ℕ, _+_}
 use mathlib.Core.Bool.{Bool, true, false, cond}
@@ -37,17 +37,11 @@ abbrev pub isAccepted : Answer → Bool
 isAccepted Accepted = true
 isAccepted (Refused reason) = false
 
--- the meter after a list of samples, one by one
-unfoldable pub afterAll : Meter → List Sample → Meter
-afterAll m [] = m
-afterAll m (s ∷ ss) = afterAll (afterOf m s .meter) ss
+-- what a sample adds to it: what it carries, where it is accepted
+abbrev pub addedBy : ℕ → Meter → Sample → ℕ
+addedBy e m s = cond (isAccepted (afterOf m s .answer)) (carriesFor e s) 0
 
--- the plain sum of what the accepted ones of them carry for an energy
-unfoldable pub exactOf : ℕ → Meter → List Sample → ℕ
-exactOf e m [] = 0
-exactOf e m (s ∷ ss) = cond (isAccepted (afterOf m s .answer)) (carriesFor e s) 0 + exactOf e (afterOf m s .meter) ss
-
--- STATEMENT: for each energy, Wh × 360,000 + remainder is what it was plus that sum; from a new meter, that sum
+-- STATEMENT: of each energy, Wh × 360,000 + remainder is 0 in a new meter, and grows by just what each accepted sample carries for it
 pub record EnergyIsSum : Type 0 where
-  pub grows : (e : ℕ) (m : Meter) (ss : List Sample) → valueOf (energyAt e (afterAll m ss)) ≡ valueOf (energyAt e m) + exactOf e m ss
-  pub from-new : (e address : ℕ) (ratios : Ratios) (ss : List Sample) → valueOf (energyAt e (afterAll (newOf address ratios .meter) ss)) ≡ exactOf e (newOf address ratios .meter) ss
+  pub starts : (e address : ℕ) (ratios : Ratios) → valueOf (energyAt e (newOf address ratios .meter)) ≡ 0
+  pub grows : (e : ℕ) (m : Meter) (s : Sample) → valueOf (energyAt e (afterOf m s .meter)) ≡ valueOf (energyAt e m) + addedBy e m s

@@ -45,18 +45,16 @@ module _ (m : Meter) (which : ℕ) where
   unfolding wrapValues
   wrap-at = each (λ (e : Energy). wrapOf (meterT m) (e .wh)) (energiesOf m) which _ (ap (λ (n : ℕ). n / 100000000) (zero-div _))
 
--- an energy of a meter within limits is at most its top
-energies-top : (es : Energies) → energiesOk es ≡ true → (es .positive .wh .0 ≤ topWh) × (es .negative .wh .0 ≤ topWh)
-energies-top es h =
-    let t = both (energyOk (es .positive)) (energyOk (es .negative)) h in
-    (energy-top (es .positive) (t .0), energy-top (es .negative) (t .1))
+-- an energy of a meter within limits is within its own, and at most its top
+pub energy-within : (m : Meter) (which : ℕ) → meterOk m ≡ true → energyOk (energyAt which m) ≡ true
+energy-within m zero h = both (energyOk (m .active .positive)) (energyOk (m .active .negative)) (meter-parts m h .active) .0
+energy-within m (suc zero) h = both (energyOk (m .active .positive)) (energyOk (m .active .negative)) (meter-parts m h .active) .1
+energy-within m (suc (suc zero)) h = both (energyOk (m .reactive .positive)) (energyOk (m .reactive .negative)) (meter-parts m h .reactive) .0
+energy-within m (suc (suc (suc zero))) h = both (energyOk (m .reactive .positive)) (energyOk (m .reactive .negative)) (meter-parts m h .reactive) .1
+energy-within m (suc (suc (suc (suc which)))) h = refl
 
 pub energy-most : (m : Meter) (which : ℕ) → meterOk m ≡ true → energyAt which m .wh .0 ≤ topWh
-energy-most m zero h = energies-top (m .active) (meter-parts m h .active) .0
-energy-most m (suc zero) h = energies-top (m .active) (meter-parts m h .active) .1
-energy-most m (suc (suc zero)) h = energies-top (m .reactive) (meter-parts m h .reactive) .0
-energy-most m (suc (suc (suc zero))) h = energies-top (m .reactive) (meter-parts m h .reactive) .1
-energy-most m (suc (suc (suc (suc which)))) h = zero-le
+energy-most m which h = energy-top (energyAt which m) (energy-within m which h)
 
 -- ---- powers
 

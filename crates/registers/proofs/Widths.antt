@@ -7,11 +7,11 @@ use native.Mathlib.Nat.{lt-of-lt-of-le, pow-le-pow-right}
 use native.Mathlib.Omega.{arith}
 use lib.Dec.{eqb, leb}
 use borrow.Author.Tests.{eqb-true, eqb-false, leb-true}
-use lib.ListN.{length, getD, take, replicate, length-append, List·getD-append}
+use lib.ListN.{length, getD, take, replicate, getD-replicate, length-append, List·getD-append}
 use Rattle.words.proofs.Signs.{twos-fits}
 use Rattle.ratio.proofs.Powers.{powers-fit}
 use Rattle.ratio.proofs.Joins.{counts-fit}
-use Rattle.directory.specs.Quantity.{widths, widthOf}
+use Rattle.directory.specs.Quantity.{quantity, energyCount, low, high, wrap, widths, widthOf}
 use Rattle.directory.specs.Order.{roomOf}
 use Rattle.directory.specs.Table.{directory}
 use Rattle.directory.specs.Item.{none}
@@ -75,6 +75,56 @@ append-fits w (v ∷ a) b f g (suc i) = append-fits w a b (λ i. f (suc i)) g i
 
 -- ---- kind by kind
 
+-- a value shown of a quantity stands among its kind's, and fits its bytes
+pub record Shows (m : Meter) (q : ℕ) : Type 0 where
+  pub case : q % 64 < length (getD (valuesOf m) (q / 64) [])
+  pub fits : shownOf m q < 256 ^ widthOf q
+
+-- energies: of any record within limits
+module _ (m : Meter) (h : meterOk m ≡ true) where
+  count-fits : (i : ℕ) → getD (countValues m) i 0 < 256 ^ 4
+  count-fits i = rw (count-at m i) (omega (arith, counts-fit .register (meterT m) (energyAt i m .wh)))
+
+  low-fits : (i : ℕ) → getD (lowValues m) i 0 < 256 ^ 4
+  low-fits i = rw (low-at m i) (omega (arith, counts-fit .low (energyAt i m .wh)))
+
+  high-fits : (i : ℕ) → getD (highValues m) i 0 < 256 ^ 4
+  high-fits i = rw (high-at m i) (omega (arith, counts-fit .high (energyAt i m .wh) (energy-most m i h)))
+
+  wrap-fits : (i : ℕ) → getD (wrapValues m) i 0 < 256 ^ 2
+  wrap-fits i = rw (wrap-at m i) (omega (arith, counts-fit .wrap (meterT m) (energyAt i m .wh) (energy-most m i h)))
+
+  -- one of the four, of a kind whose values fit
+  one-shows : (k w e : ℕ) → e < 4 → Fit (getD (valuesOf m) k []) (replicate 4 w) → getD widths k [] ≡ replicate 4 w → 1 ≤ w → Shows m (quantity k e)
+  unfolding shownOf
+  one-shows k w e l fit same some =
+      let kind : quantity k e / 64 ≡ k = omega (arith, l) in
+      let which : quantity k e % 64 ≡ e = omega (arith, l) in
+      let wide : getD (replicate 4 w) e 0 ≡ w = getD-replicate 4 e w 0 l in
+      record {
+        case = rw (kind, which) (fit-case (getD (valuesOf m) k []) (replicate 4 w) fit e (rw wide some));
+        fits = rw (kind, which, same) (fit-at (getD (valuesOf m) k []) (replicate 4 w) fit e);
+      }
+
+  -- an energy's register, Low, High and wrap
+  module _ (e : ℕ) (four : e < 4) where
+    pub count-shows : Shows m (energyCount e)
+    unfolding countValues
+    count-shows = one-shows 5 4 e four (all-fit 4 4 (countValues m) refl count-fits) refl (omega arith)
+
+    pub low-shows : Shows m (low e)
+    unfolding lowValues
+    low-shows = one-shows 6 4 e four (all-fit 4 4 (lowValues m) refl low-fits) refl (omega arith)
+
+    pub high-shows : Shows m (high e)
+    unfolding highValues
+    high-shows = one-shows 7 4 e four (all-fit 4 4 (highValues m) refl high-fits) refl (omega arith)
+
+    pub wrap-shows : Shows m (wrap e)
+    unfolding wrapValues
+    wrap-shows = one-shows 8 2 e four (all-fit 2 4 (wrapValues m) refl wrap-fits) refl (omega arith)
+
+-- the others: of a record as a program holds it
 module _ (m : Meter) (typed : Typed m) (h : meterOk m ≡ true) where
   abbrev parts : SampleParts (meterT m) (m .latest)
   parts = sample-parts (meterT m) (m .latest) (meter-parts m h .latest)
@@ -97,18 +147,6 @@ module _ (m : Meter) (typed : Typed m) (h : meterOk m ≡ true) where
       rw (signed-at m i)
       (twos-fits 2 (powerAt (m .latest) i .negative) (powerAt (m .latest) i .magnitude / 100)
       (omega (arith, powers-fit .signed (meterT m) (powerAt (m .latest) i .magnitude) (power-most m i h))))
-
-  count-fits : (i : ℕ) → getD (countValues m) i 0 < 256 ^ 4
-  count-fits i = rw (count-at m i) (omega (arith, counts-fit .register (meterT m) (energyAt i m .wh)))
-
-  low-fits : (i : ℕ) → getD (lowValues m) i 0 < 256 ^ 4
-  low-fits i = rw (low-at m i) (omega (arith, counts-fit .low (energyAt i m .wh)))
-
-  high-fits : (i : ℕ) → getD (highValues m) i 0 < 256 ^ 4
-  high-fits i = rw (high-at m i) (omega (arith, counts-fit .high (energyAt i m .wh) (energy-most m i h)))
-
-  wrap-fits : (i : ℕ) → getD (wrapValues m) i 0 < 256 ^ 2
-  wrap-fits i = rw (wrap-at m i) (omega (arith, counts-fit .wrap (meterT m) (energyAt i m .wh) (energy-most m i h)))
 
   sign-fits : (i : ℕ) → getD (signValues m) i 0 < 256 ^ 1
   sign-fits i = rw (sign-at m i) (pick (powerAt (m .latest) i .negative))
@@ -148,13 +186,13 @@ module _ (m : Meter) (typed : Typed m) (h : meterOk m ≡ true) where
           (
             all-fit 4 8 (signedValues m) refl signed-fits,
             (
-              all-fit 4 4 (countValues m) refl count-fits,
+              all-fit 4 4 (countValues m) refl (count-fits m h),
               (
-                all-fit 4 4 (lowValues m) refl low-fits,
+                all-fit 4 4 (lowValues m) refl (low-fits m h),
                 (
-                  all-fit 4 4 (highValues m) refl high-fits,
+                  all-fit 4 4 (highValues m) refl (high-fits m h),
                   (
-                    all-fit 2 4 (wrapValues m) refl wrap-fits,
+                    all-fit 2 4 (wrapValues m) refl (wrap-fits m h),
                     (
                       factor-fits,
                       (
@@ -205,12 +243,19 @@ known i h =
     let t = both (leb 1 (widthOf (it .quantity))) (leb (widthOf (it .quantity)) (roomOf it)) (directory-rules .meanings i h) in
     (leb-true _ _ (t .0), leb-true _ _ (t .1))
 
+-- what fits its bytes has room in its item
+pub in-room : (i : ℕ) → i < length directory → {v : ℕ} → v < 256 ^ widthOf (getD directory i none .quantity) → v < 256 ^ roomOf (getD directory i none)
+in-room i l fit = lt-of-lt-of-le fit (pow-le-pow-right (omega arith) (known i l .1))
+
+pub typed-shows : (m : Meter) → Typed m → meterOk m ≡ true → (i : ℕ) → i < length directory → Shows m (getD directory i none .quantity)
+typed-shows m typed h i l = record { case = case m typed h (getD directory i none .quantity) (known i l .0); fits = fits m typed h (getD directory i none .quantity) }
+
 pub every-case : EveryCase
 every-case = record {
   case = case;
   fits = fits;
   known = λ i h. known i h .0;
-  room = λ m typed h i l. lt-of-lt-of-le (fits m typed h (getD directory i none .quantity)) (pow-le-pow-right (omega arith) (known i l .1));
+  room = λ m typed h i l. in-room i l (fits m typed h (getD directory i none .quantity));
 }
 
 unseen : (m : Meter) (standard output : List ℕ) (k : ℕ) → k < 16 → getD (valuesOf (withSetup m standard output)) k [] ≡ getD (valuesOf m) k []

@@ -1,0 +1,174 @@
+-- At either moment an energy is the exact one, so its whole Wh are the exact energy divided by 360,000; each reading shows its part of these, and
+-- the parts join to them, or to them rounded down to the step.
+use mathlib.Core.Path.{_≡_, refl, sym, ap, _∙_}
+use mathlib.Core.Bool.{true}
+use mathlib.Core.List.{[], map}
+use Prim.Native.Nat.{ℕ, _+_, _*_, _/_, _%_, _≤_, _<_}
+use native.Mathlib.Omega.{arith}
+use lib.ListN.{getD}
+use Rattle.ratio.specs.declared.Ratios.{Ratios}
+use Rattle.ratio.specs.declared.WattHours.{WattHours}
+use Rattle.ratio.specs.Ratios.{ratiosOk, tOf}
+use Rattle.ratio.specs.Energies.{stepOf, registerOf, wrapOf, lowOf, highOf, energyOf, topWh, roundedOf}
+use Rattle.ratio.proofs.Joins.{join-split}
+use Rattle.directory.specs.Quantity.{quantity, energyCount, low, high, wrap}
+use Rattle.reading.specs.declared.Quantity.{Quantity}
+use Rattle.reading.specs.declared.Quantity.the-variants as read
+use Rattle.reading.specs.declared.Answer.the-variants.{Reading}
+use Rattle.collector.specs.Collector.{collectorOf}
+use Rattle.meter.specs.declared.energies.Energy.{Energy}
+use Rattle.meter.specs.declared.Meter.{Meter}
+use Rattle.meter.specs.Energies.{valueOf}
+use Rattle.meter.specs.Meters.{noEnergy, meterT, meterOk, blankOf, newOf}
+use Rattle.meter.specs.Histories.{energiesOf, energyAt}
+use Rattle.meter.proofs.Parts.{energy-rest, meter-parts}
+use Rattle.meter.proofs.Sums.{energy-is-sum}
+use Rattle.meter.proofs.Answers.{new-answers, new-blank}
+use Rattle.registers.proofs.Values.{energy-within, energy-most}
+use Rattle.registers.proofs.Widths.{Shows, count-shows, low-shows, high-shows, wrap-shows}
+use Rattle.demands.specs.Meaning.{countMeanings, lowMeanings, highMeanings, wrapMeanings, meanings, meaningOf}
+use Rattle.demands.specs.RoundTrip.{replyTo, Meets}
+use Rattle.demands.specs.Histories.{afterAll, exactOf}
+use Rattle.demands.specs.Demand3.{History, sooner, later, exactAt, Poll, collected, Bounds, RegisterRead, HalvesRead, Demand3}
+use Rattle.demands.proofs.Shown.{mapped}
+use Rattle.demands.proofs.Polls.{collects}
+use Rattle.demands.proofs.Histories.{after-events, idle-adds}
+
+-- ---- what the energies of a record mean
+
+module _ (m : Meter) (e : ℕ) (four : e < 4) where
+  abbrev wh : WattHours
+  wh = energyAt e m .wh
+
+  -- one of a kind whose meanings go by the energies
+  one-means : (k : ℕ) (f : Energy → Quantity) → getD (meanings m) k [] ≡ map f (energiesOf m) → meaningOf m (quantity k e) ≡ f (energyAt e m)
+  unfolding meaningOf
+  one-means k f same =
+      let kind : quantity k e / 64 ≡ k = omega (arith, four) in
+      let which : quantity k e % 64 ≡ e = omega (arith, four) in
+      rw (kind, which, same) (mapped f (energiesOf m) noEnergy (read.Plain 0) e four)
+
+  count-means : meaningOf m (energyCount e) ≡ read.Energy (registerOf (meterT m) wh) (stepOf (meterT m)) (energyOf (meterT m) (registerOf (meterT m) wh .0))
+  unfolding countMeanings
+  count-means = one-means 5 (λ (x : Energy). read.Energy (registerOf (meterT m) (x .wh)) (stepOf (meterT m)) (energyOf (meterT m) (registerOf (meterT m) (x .wh) .0))) refl
+
+  low-means : meaningOf m (low e) ≡ read.Low (lowOf wh)
+  unfolding lowMeanings
+  low-means = one-means 6 (λ (x : Energy). read.Low (lowOf (x .wh))) refl
+
+  high-means : meaningOf m (high e) ≡ read.High (highOf wh)
+  unfolding highMeanings
+  high-means = one-means 7 (λ (x : Energy). read.High (highOf (x .wh))) refl
+
+  wrap-means : meaningOf m (wrap e) ≡ read.Wrap (wrapOf (meterT m) wh)
+  unfolding wrapMeanings
+  wrap-means = one-means 8 (λ (x : Energy). read.Wrap (wrapOf (meterT m) (x .wh))) refl
+
+module _ (h : History) (e : ℕ) (four : e < 4) where
+  abbrev first : Meter
+  first = newOf (h .address) (h .ratios) .meter
+
+  abbrev t : ℕ
+  t = tOf (h .ratios)
+
+  -- the whole Wh of the exact energy
+  abbrev whole : WattHours
+  whole = record { 0 = exactAt e h / 360000 }
+
+  -- ---- either moment
+
+  record Moment (m : Meter) : Type 0 where
+    pub within : meterOk m ≡ true
+    pub address : m .address ≡ h .address
+    pub ratios : m .ratios ≡ h .ratios
+    pub value : valueOf (energyAt e m) ≡ exactAt e h
+
+  then : Moment (sooner h)
+  then =
+      let blank = new-blank (h .address) (h .ratios) in
+      record {
+        within = after-events .within first (h .events) (new-answers .accepted (h .address) (h .ratios) .0 (h .made));
+        address = after-events .address first (h .events) ∙ ap (λ (m : Meter). m .address) blank;
+        ratios = after-events .ratios first (h .events) ∙ ap (λ (m : Meter). m .ratios) blank;
+        value = omega (arith, after-events .grows e first (h .events), energy-is-sum .starts e (h .address) (h .ratios));
+      }
+
+  last : Moment (later h)
+  last = record {
+    within = after-events .within (sooner h) (h .between) (then .within);
+    address = after-events .address (sooner h) (h .between) ∙ then .address;
+    ratios = after-events .ratios (sooner h) (h .between) ∙ then .ratios;
+    value = omega (arith, after-events .grows e (sooner h) (h .between), idle-adds e (sooner h) (h .between) (h .idle), then .value);
+  }
+
+  -- ---- what is read then
+
+  module _ (m : Meter) (now : Moment m) where
+    same : energyAt e m .wh ≡ whole
+    same =
+        let rest = energy-rest (energyAt e m) (energy-within m e (now .within)) in
+        let n : energyAt e m .wh .0 ≡ exactAt e h / 360000 = omega (arith, now .value, rest) in
+        ap (λ (x : ℕ). record { 0 = x }) n
+
+    same-t : meterT m ≡ t
+    same-t = ap tOf (now .ratios)
+
+    polled : {q : ℕ} (p : Poll (h .address) q) → Shows m q → collected (h .ratios) m p ≡ Reading (meaningOf m q)
+    polled p shows =
+        let meets : Meets m (p .request) (p .buffer) = record { within = now .within; room = p .room; own = now .address ∙ sym (p .own) } in
+        ap (λ (r : Ratios). collectorOf (p .request) (replyTo m (p .request) (p .buffer)) r (p .index)) (sym (now .ratios))
+        ∙ collects m (p .request) (p .buffer) meets (p .asks) (p .index) (p .below) (rw (p .shows) shows)
+        ∙ ap (λ (x : ℕ). Reading (meaningOf m x)) (p .shows)
+
+    counts : (p : Poll (h .address) (energyCount e)) → collected (h .ratios) m p ≡ Reading (read.Energy (registerOf t whole) (stepOf t) (energyOf t (registerOf t whole .0)))
+    counts p =
+        polled p (count-shows m (now .within) e four)
+        ∙ ap Reading (count-means m e four)
+        ∙ (λ i. Reading (read.Energy (registerOf (same-t i) (same i)) (stepOf (same-t i)) (energyOf (same-t i) (registerOf (same-t i) (same i) .0))))
+
+    wraps : (p : Poll (h .address) (wrap e)) → collected (h .ratios) m p ≡ Reading (read.Wrap (wrapOf t whole))
+    wraps p = polled p (wrap-shows m (now .within) e four) ∙ ap Reading (wrap-means m e four) ∙ (λ i. Reading (read.Wrap (wrapOf (same-t i) (same i))))
+
+    lows : (p : Poll (h .address) (low e)) → collected (h .ratios) m p ≡ Reading (read.Low (lowOf whole))
+    lows p = polled p (low-shows m (now .within) e four) ∙ ap Reading (low-means m e four) ∙ (λ i. Reading (read.Low (lowOf (same i))))
+
+    highs : (p : Poll (h .address) (high e)) → collected (h .ratios) m p ≡ Reading (read.High (highOf whole))
+    highs p = polled p (high-shows m (now .within) e four) ∙ ap Reading (high-means m e four) ∙ (λ i. Reading (read.High (highOf (same i))))
+
+  -- ---- joined
+
+  ratios-ok : ratiosOk (h .ratios) ≡ true
+  ratios-ok = ap ratiosOk (sym (then .ratios)) ∙ meter-parts (sooner h) (then .within) .ratios
+
+  register-read : (m n : Meter) → Moment m → Moment n → (r : Poll (h .address) (energyCount e)) (w : Poll (h .address) (wrap e)) → RegisterRead h e (collected (h .ratios) m r) (collected (h .ratios) n w)
+  register-read m n now thereafter r w = record {
+    count = registerOf t whole;
+    alone = energyOf t (registerOf t whole .0);
+    turns = wrapOf t whole;
+    whole = roundedOf t whole;
+    reads = counts m now r;
+    wraps = wraps n thereafter w;
+    joins = join-split .counts (h .ratios) whole ratios-ok;
+    bounds = record { above = omega (arith, join-split .above t whole); below = omega (arith, join-split .below t whole) };
+  }
+
+  halves-read : (m n : Meter) → Moment m → Moment n → (l : Poll (h .address) (low e)) (u : Poll (h .address) (high e)) → HalvesRead h e (collected (h .ratios) m l) (collected (h .ratios) n u)
+  halves-read m n now thereafter l u =
+      let most : exactAt e h / 360000 ≤ topWh = rw (sym (ap (λ (x : WattHours). x .0) (same m now))) (energy-most m e (now .within)) in
+      record {
+        lows = lowOf whole;
+        highs = highOf whole;
+        whole = whole;
+        reads = lows m now l;
+        heads = highs n thereafter u;
+        joins = join-split .halves whole most;
+        bounds = record { above = omega arith; below = omega arith };
+      }
+
+pub demand-3 : Demand3
+demand-3 = record {
+  register-first = λ h e four r w. register-read h e four (sooner h) (later h) (then h e four) (last h e four) r w;
+  wrap-first = λ h e four r w. register-read h e four (later h) (sooner h) (last h e four) (then h e four) r w;
+  low-first = λ h e four l u. halves-read h e four (sooner h) (later h) (then h e four) (last h e four) l u;
+  high-first = λ h e four l u. halves-read h e four (later h) (sooner h) (last h e four) (then h e four) l u;
+}

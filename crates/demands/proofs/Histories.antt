@@ -1,0 +1,112 @@
+-- A frame alters setup words alone and a sample adds what it carries, so an energy is what it was plus the sum: event by event.
+use mathlib.Core.Path.{_≡_, refl, sym, ap, _∙_}
+use mathlib.Core.Logic.{_⊎_, inl, inr}
+use mathlib.Core.Bool.{Bool, true, false, _||_, cond, false≢true}
+use mathlib.Core.List.{List, [], _∷_}
+use Prim.Native.Nat.{ℕ, _+_}
+use native.Mathlib.Omega.{arith}
+use Rattle.modbus.specs.Frame.{valuesOf}
+use Rattle.meter.specs.declared.samples.Sample.{Sample}
+use Rattle.meter.specs.declared.Meter.{Meter}
+use Rattle.meter.specs.Samples.{sampleOk}
+use Rattle.meter.specs.Energies.{valueOf}
+use Rattle.meter.specs.Meters.{meterT, meterOk}
+use Rattle.meter.specs.After.{nextOf, meterBelowTop, afterOf}
+use Rattle.meter.specs.Answers.{withSetup}
+use Rattle.meter.specs.Histories.{energyAt, carriesFor, isAccepted, addedBy}
+use Rattle.meter.proofs.Cases.{chosen}
+use Rattle.meter.proofs.Sums.{energy-is-sum}
+use Rattle.meter.proofs.Answers.{stays-within}
+use Rattle.store.specs.Writes.{toStandard, storedOf}
+use Rattle.board.specs.Board.{boardOf}
+use Rattle.board.specs.Answers.{Stores}
+use Rattle.board.proofs.Answers.{untouched, frame-within}
+use Rattle.demands.specs.Histories.{Event, afterEvent, eventAdds, isTaken, afterAll, exactOf, anyTaken, AfterEvents}
+
+-- ---- one event
+
+-- what sees no setup words sees nothing of a frame
+module _ {A : Type 0} (see : Meter → A) (blind : (m : Meter) (standard output : List ℕ) → see (withSetup m standard output) ≡ see m) where
+  stored-unseen : (m : Meter) (frame : List ℕ) → see (storedOf m frame) ≡ see m
+  stored-unseen m frame = by (toStandard frame)
+    where
+      by : (t : Bool) → see (cond t (withSetup m (valuesOf frame) (m .output)) (withSetup m (m .standard) (valuesOf frame))) ≡ see m
+      by true = blind m (valuesOf frame) (m .output)
+      by false = blind m (m .standard) (valuesOf frame)
+
+  altered-unseen : (m : Meter) (frame : List ℕ) (n : Meter) → (n ≡ m) ⊎ (Stores m frame × (n ≡ storedOf m frame)) → see n ≡ see m
+  altered-unseen m frame n (inl e) = ap see e
+  altered-unseen m frame n (inr s) = ap see (s .1) ∙ stored-unseen m frame
+
+  frame-unseen : (m : Meter) (frame b : List ℕ) → see (boardOf m frame b .handled .meter) ≡ see m
+  frame-unseen m frame b = altered-unseen m frame _ (untouched .altered m frame b)
+
+-- what is the same of the next meter is the same after a sample
+module _ {A : Type 0} (see : Meter → A) (blind : (m : Meter) (s : Sample) → see (nextOf m s) ≡ see m) where
+  chosen-unseen : (a b c : Bool) (m n : Meter) → see n ≡ see m → see (chosen a b c m n .meter) ≡ see m
+  chosen-unseen true true true m n e = e
+  chosen-unseen true true false m n e = refl
+  chosen-unseen true false c m n e = refl
+  chosen-unseen false b c m n e = refl
+
+  sample-unseen : (m : Meter) (s : Sample) → see (afterOf m s .meter) ≡ see m
+  unfolding afterOf
+  sample-unseen m s = chosen-unseen (meterOk m) (sampleOk (meterT m) s) (meterBelowTop (nextOf m s)) m (nextOf m s) (blind m s)
+
+event-address : (m : Meter) (x : Event) → afterEvent m x .address ≡ m .address
+event-address m (Event.sample s) = sample-unseen (λ m. m .address) (λ m s. refl) m s
+event-address m (Event.frame bytes b) = frame-unseen (λ m. m .address) (λ m s o. refl) m bytes b
+
+event-ratios : (m : Meter) (x : Event) → afterEvent m x .ratios ≡ m .ratios
+event-ratios m (Event.sample s) = sample-unseen (λ m. m .ratios) (λ m s. refl) m s
+event-ratios m (Event.frame bytes b) = frame-unseen (λ m. m .ratios) (λ m s o. refl) m bytes b
+
+event-within : (m : Meter) (x : Event) → meterOk m ≡ true → meterOk (afterEvent m x) ≡ true
+event-within m (Event.sample s) h = stays-within .sample m s h
+event-within m (Event.frame bytes b) h = frame-within .frame m bytes b h
+
+event-adds : (e : ℕ) (m : Meter) (x : Event) → valueOf (energyAt e (afterEvent m x)) ≡ valueOf (energyAt e m) + eventAdds e m x
+event-adds e m (Event.sample s) = energy-is-sum .grows e m s
+event-adds e m (Event.frame bytes b) = frame-unseen (λ m. valueOf (energyAt e m)) (λ m s o. refl) m bytes b ∙ omega arith
+
+-- ---- and so for any
+
+within : (m : Meter) (xs : List Event) → meterOk m ≡ true → meterOk (afterAll m xs) ≡ true
+unfolding afterAll
+within m [] h = h
+within m (x ∷ xs) h = within (afterEvent m x) xs (event-within m x h)
+
+address : (m : Meter) (xs : List Event) → afterAll m xs .address ≡ m .address
+unfolding afterAll
+address m [] = refl
+address m (x ∷ xs) = address (afterEvent m x) xs ∙ event-address m x
+
+ratios : (m : Meter) (xs : List Event) → afterAll m xs .ratios ≡ m .ratios
+unfolding afterAll
+ratios m [] = refl
+ratios m (x ∷ xs) = ratios (afterEvent m x) xs ∙ event-ratios m x
+
+grows : (e : ℕ) (m : Meter) (xs : List Event) → valueOf (energyAt e (afterAll m xs)) ≡ valueOf (energyAt e m) + exactOf e m xs
+unfolding afterAll exactOf
+grows e m [] = omega arith
+grows e m (x ∷ xs) = omega (arith, grows e (afterEvent m x) xs, event-adds e m x)
+
+pub after-events : AfterEvents
+after-events = record { within = within; address = address; ratios = ratios; grows = grows }
+
+-- ---- without an accepted sample
+
+untaken-adds : (e : ℕ) (m : Meter) (x : Event) → isTaken m x ≡ false → eventAdds e m x ≡ 0
+untaken-adds e m (Event.sample s) h = ap (λ (t : Bool). cond t (carriesFor e s) 0) h
+untaken-adds e m (Event.frame bytes b) h = refl
+
+neither : (a b : Bool) → (a || b) ≡ false → (a ≡ false) × (b ≡ false)
+neither true b h = absurd (false≢true (sym h))
+neither false b h = (refl, h)
+
+pub idle-adds : (e : ℕ) (m : Meter) (xs : List Event) → anyTaken m xs ≡ false → exactOf e m xs ≡ 0
+unfolding exactOf anyTaken
+idle-adds e m [] h = refl
+idle-adds e m (x ∷ xs) h =
+    let t = neither (isTaken m x) (anyTaken (afterEvent m x) xs) h in
+    omega (arith, untaken-adds e m x (t .0), idle-adds e (afterEvent m x) xs (t .1))

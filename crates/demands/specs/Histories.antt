@@ -1,0 +1,55 @@
+-- Demand 3's ground: a meter's history, of samples and frames, accepted and refused, and the exact energy of its accepted samples.
+use mathlib.Core.Path.{_≡_}
+use Prim.Native.Nat.{ℕ, _+_}
+use mathlib.Core.Bool.{Bool, true, false, _||_}
+use mathlib.Core.List.{List, [], _∷_}
+use Rattle.meter.specs.declared.samples.Sample.{Sample}
+use Rattle.meter.specs.declared.Meter.{Meter}
+use Rattle.meter.specs.Energies.{valueOf}
+use Rattle.meter.specs.Meters.{meterOk}
+use Rattle.meter.specs.After.{afterOf}
+use Rattle.meter.specs.Histories.{energyAt, isAccepted, addedBy}
+use Rattle.board.specs.Board.{boardOf}
+
+-- an event: a sample is handed over, or a frame, with a buffer for the reply
+pub data Event : Type 0 where
+  sample : Sample → Event
+  frame : List ℕ → List ℕ → Event
+
+-- the meter after an event
+abbrev pub afterEvent : Meter → Event → Meter
+afterEvent m (Event.sample s) = afterOf m s .meter
+afterEvent m (Event.frame bytes buffer) = boardOf m bytes buffer .handled .meter
+
+-- what an event adds to an energy: a sample what it carries, where it is accepted; a frame nothing
+abbrev pub eventAdds : ℕ → Meter → Event → ℕ
+eventAdds e m (Event.sample s) = addedBy e m s
+eventAdds e m (Event.frame bytes buffer) = 0
+
+-- an accepted sample
+abbrev pub isTaken : Meter → Event → Bool
+isTaken m (Event.sample s) = isAccepted (afterOf m s .answer)
+isTaken m (Event.frame bytes buffer) = false
+
+-- the meter after some events, one by one
+unfoldable pub afterAll : Meter → List Event → Meter
+afterAll m [] = m
+afterAll m (x ∷ xs) = afterAll (afterEvent m x) xs
+
+-- the exact energy of the samples accepted among them, in hundredths of a watt-second: the plain sum of what they carry
+unfoldable pub exactOf : ℕ → Meter → List Event → ℕ
+exactOf e m [] = 0
+exactOf e m (x ∷ xs) = eventAdds e m x + exactOf e (afterEvent m x) xs
+
+-- a sample is accepted among them
+unfoldable pub anyTaken : Meter → List Event → Bool
+anyTaken m [] = false
+anyTaken m (x ∷ xs) = isTaken m x || anyTaken (afterEvent m x) xs
+
+-- STATEMENT: after any events a record is still within limits, its address and ratios are as they were, and each energy, Wh × 360,000 + remainder,
+-- has grown by the exact energy of the samples accepted
+pub record AfterEvents : Type 0 where
+  pub within : (m : Meter) (xs : List Event) → meterOk m ≡ true → meterOk (afterAll m xs) ≡ true
+  pub address : (m : Meter) (xs : List Event) → afterAll m xs .address ≡ m .address
+  pub ratios : (m : Meter) (xs : List Event) → afterAll m xs .ratios ≡ m .ratios
+  pub grows : (e : ℕ) (m : Meter) (xs : List Event) → valueOf (energyAt e (afterAll m xs)) ≡ valueOf (energyAt e m) + exactOf e m xs
