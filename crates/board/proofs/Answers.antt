@@ -24,7 +24,7 @@ use Rattle.board.specs.declared.Reply.{Reply}
 use Rattle.board.specs.declared.Reply.the-variants.{Silent, Sent, Refused}
 use Rattle.store.specs.Writes.{storedOf}
 use Rattle.board.specs.Board.{Outcome, boardOf}
-use Rattle.board.specs.Answers.{Heeds, Answers, Errs, ReadErrs, WriteErrs, Stores, ExactlyWhen, Obeys, Untouched, FrameWithin, RepliesSealed, BufferUnseen, Determined}
+use Rattle.board.specs.Answers.{Heeds, Answers, Errs, ReadErrs, WriteErrs, Stores, ExactlyWhen, Obeys, Untouched, FrameWithin, RepliesSealed, BufferUnseen}
 use Rattle.board.proofs.Cases.{board-1, board-2, board-silent}
 use Rattle.store.proofs.Verdicts.{write-when, write-within}
 use Rattle.board.proofs.Views.{Gives, other, misread, shows, miswritten, stores, View, out, short, unheard, for-all, for-one, view}
@@ -257,6 +257,3 @@ buffer-unseen =
       same = λ m frame a b ra rb. same m frame a b ra rb (view m frame a);
       bytes = λ m frame a b n ra rb. bytes-same m frame a b ra rb n;
     }
-
-pub determined : Determined
-determined = record { once = λ m frame before h k x y p q. (p .answer ∙ sym (q .answer), p .bytes ∙ sym (q .bytes)) }

@@ -21,7 +21,6 @@ use Rattle.modbus.specs.Replies.{errorReply, echoReply, dataReply}
 use Rattle.meter.specs.declared.Meter.{Meter}
 use Rattle.meter.specs.Meters.{meterOk}
 use Rattle.board.specs.declared.Reply.the-variants.{Silent, Sent, Refused}
-use Rattle.board.specs.declared.Handled.{Handled}
 use Rattle.board.specs.Reads.{itemsSent}
 use Rattle.store.specs.Writes.{storedOf, writtenOf}
 use Rattle.board.specs.Board.{silentOf, sentOf, boardOf}
@@ -90,12 +89,3 @@ pub record RepliesSealed : Type 0 where
 pub record BufferUnseen : Type 0 where
   pub same : (m : Meter) (frame a b : List ℕ) → 256 ≤ length a → 256 ≤ length b → boardOf m frame a .handled ≡ boardOf m frame b .handled
   pub bytes : (m : Meter) (frame a b : List ℕ) (n : ℕ) → 256 ≤ length a → 256 ≤ length b → boardOf m frame a .handled .reply ≡ Sent n → take n (boardOf m frame a .buffer) ≡ take n (boardOf m frame b .buffer)
-
--- what the contract of `board::handle` allows: an answer with a record, and a buffer
-pub record Allows (m : Meter) (frame before : List ℕ) (h : Handled) (after : List ℕ) : Type 0 where
-  pub answer : h ≡ boardOf m frame before .handled
-  pub bytes : after ≡ boardOf m frame before .buffer
-
--- STATEMENT: any two outcomes that the contract allows are equal
-pub record Determined : Type 0 where
-  pub once : (m : Meter) (frame before : List ℕ) (h k : Handled) (x y : List ℕ) → Allows m frame before h x → Allows m frame before k y → (h ≡ k) × (x ≡ y)

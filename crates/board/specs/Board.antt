@@ -1,6 +1,6 @@
 -- Paper 01, "What the meter does with a frame": its five steps in their order, first that applies, and address 0.
 use Prim.Native.Nat.{ℕ}
-use mathlib.Core.Bool.{Bool, _&&_, not, cond}
+use mathlib.Core.Bool.{_&&_, not, cond}
 use mathlib.Core.List.{List}
 use lib.Dec.{ltb, eqb}
 use lib.ListN.{length}

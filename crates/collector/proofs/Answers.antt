@@ -33,11 +33,10 @@ use Rattle.reading.specs.declared.Answer.{Answer}
 use Rattle.reading.specs.declared.Answer.the-variants.{Reading, Error, Refused}
 use Rattle.reading.specs.Cases.{told}
 use Rattle.reading.specs.Readings.{readingOf}
-use Rattle.reading.proofs.Told.{one-answer-each}
 use Rattle.reading.proofs.Thirteen.{Entry, item-entry, thirteen-when}
 use Rattle.reading.proofs.Thirteen.Entry.{reads, refused}
 use Rattle.collector.specs.Collector.{heard, lengthWrong, isReadError, foreign, thirdOf, codeOf, errorOf, misfit, placeOf, itemOf, replyOf, collectorOf}
-use Rattle.collector.specs.Answers.{Asks, Asked, Heard, Fits, Holds, itemAt, valueIn, errorMisfit, Row, Errs, Reads, ExactlyWhen, NotMisread, Determined}
+use Rattle.collector.specs.Answers.{Asks, Asked, Heard, Fits, Holds, itemAt, valueIn, errorMisfit, Row, Errs, Reads, ExactlyWhen, NotMisread}
 use Rattle.collector.proofs.Places.{run-length, run-at, item-past, item-reads}
 use Rattle.collector.proofs.Judged.{length-refused, crc-refused, foreign-refused, error-given, misfit-refused, item-given, fitting}
 
@@ -286,6 +285,3 @@ not-misread = record {
   reading = λ request reply r index q h. let f = exactly-when .reading request reply r index q .0 h .holds .fits in (f .hears .whole, same-address request reply (f .hears .own), fitting request reply (f .fits));
   error = λ request reply r index code h. let s = exactly-when .error request reply r index code .0 h .hears in (s .whole, same-address request reply (s .own));
 }
-
-pub determined : Determined
-determined = record { once = λ request reply r index a b x y. one-answer-each .answers a b (x ∙ sym y) }

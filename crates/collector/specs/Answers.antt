@@ -26,9 +26,7 @@ use Rattle.directory.specs.Run.{runItems}
 use Rattle.modbus.specs.Frame.{addressOf, numberOf}
 use Rattle.modbus.specs.Read.{readIn}
 use Rattle.reading.specs.declared.Quantity.{Quantity}
-use Rattle.reading.specs.declared.Answer.{Answer}
 use Rattle.reading.specs.declared.Answer.the-variants.{Reading, Error, Refused}
-use Rattle.reading.specs.Cases.{told}
 use Rattle.reading.specs.Readings.{readingOf}
 use Rattle.reading.specs.Impossible.{thirteen}
 use Rattle.collector.specs.Collector.{heard, lengthWrong, isReadError, foreign, thirdOf, misfit, placeOf, collectorOf}
@@ -135,11 +133,3 @@ pub record JoinsWhen : Type 0 where
   pub three : (r : Ratios) (c : Count) (wrap : ℕ) → (joinOf r c wrap ≡ joined.Refused RatioOutOfLimits) ↔ (ratiosOk r ≡ false)
   pub fourteen : (r : Ratios) (c : Count) (wrap : ℕ) → (joinOf r c wrap ≡ joined.Refused JoinPastTop) ↔ ((ratiosOk r ≡ true) × (99999999 < c .0))
   pub halves : (low high : ℕ) (reason : Refusal) → (joinHalvesOf low high ≡ joined.Refused reason) ↔ ((reason ≡ JoinPastTop) × ((999999 < low) ⊎ (65535999 < high)))
-
--- what the contract of `collector::read` allows, in the paper's numbers and values
-abbrev pub Allows : List ℕ → List ℕ → Ratios → ℕ → Answer → Type 0
-Allows request reply r index a = told a ≡ told (collectorOf request reply r index)
-
--- STATEMENT: any two answers that the contract allows are equal
-pub record Determined : Type 0 where
-  pub once : (request reply : List ℕ) (r : Ratios) (index : ℕ) (a b : Answer) → Allows request reply r index a → Allows request reply r index b → a ≡ b

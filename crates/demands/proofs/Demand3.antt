@@ -3,7 +3,7 @@
 use mathlib.Core.Path.{_≡_, refl, sym, ap, _∙_}
 use mathlib.Core.Bool.{true}
 use mathlib.Core.List.{[], map}
-use Prim.Native.Nat.{ℕ, _+_, _*_, _/_, _%_, _≤_, _<_}
+use Prim.Native.Nat.{ℕ, _/_, _%_, _≤_, _<_}
 use native.Mathlib.Omega.{arith}
 use lib.ListN.{getD}
 use Rattle.ratio.specs.declared.Ratios.{Ratios}
@@ -19,7 +19,7 @@ use Rattle.collector.specs.Collector.{collectorOf}
 use Rattle.meter.specs.declared.energies.Energy.{Energy}
 use Rattle.meter.specs.declared.Meter.{Meter}
 use Rattle.meter.specs.Energies.{valueOf}
-use Rattle.meter.specs.Meters.{noEnergy, meterT, meterOk, blankOf, newOf}
+use Rattle.meter.specs.Meters.{noEnergy, meterT, meterOk, newOf}
 use Rattle.meter.specs.Histories.{energiesOf, energyAt}
 use Rattle.meter.proofs.Parts.{energy-rest, meter-parts}
 use Rattle.meter.proofs.Sums.{energy-is-sum}
@@ -28,8 +28,7 @@ use Rattle.registers.proofs.Values.{energy-within, energy-most}
 use Rattle.registers.proofs.Widths.{Shows, count-shows, low-shows, high-shows, wrap-shows}
 use Rattle.demands.specs.Meaning.{countMeanings, lowMeanings, highMeanings, wrapMeanings, meanings, meaningOf}
 use Rattle.demands.specs.RoundTrip.{replyTo, Meets}
-use Rattle.demands.specs.Histories.{afterAll, exactOf}
-use Rattle.demands.specs.Demand3.{History, sooner, later, exactAt, Poll, collected, Bounds, RegisterRead, HalvesRead, Demand3}
+use Rattle.demands.specs.Demand3.{History, sooner, later, exactAt, Poll, collected, RegisterRead, HalvesRead, Demand3}
 use Rattle.demands.proofs.Shown.{mapped}
 use Rattle.demands.proofs.Polls.{collects}
 use Rattle.demands.proofs.Histories.{after-events, idle-adds}

@@ -13,7 +13,7 @@ use Rattle.meter.specs.Energies.{valueOf}
 use Rattle.meter.specs.Meters.{meterT, meterOk}
 use Rattle.meter.specs.After.{nextOf, meterBelowTop, afterOf}
 use Rattle.meter.specs.Answers.{withSetup}
-use Rattle.meter.specs.Histories.{energyAt, carriesFor, isAccepted, addedBy}
+use Rattle.meter.specs.Histories.{energyAt, carriesFor}
 use Rattle.meter.proofs.Cases.{chosen}
 use Rattle.meter.proofs.Sums.{energy-is-sum}
 use Rattle.meter.proofs.Answers.{stays-within}

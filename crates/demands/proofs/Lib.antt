@@ -1,4 +1,9 @@
 pub mod Shown
 pub mod Polls
+pub mod Polled
 pub mod Histories
 pub mod Demand3
+pub mod Determined
+pub mod Starred
+pub mod ShutOut
+pub mod Demands

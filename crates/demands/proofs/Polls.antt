@@ -92,7 +92,7 @@ hears request h =
     let b = and-eq-true-iff (isRead request) _ .0 (a .1) in
     record { own = eqb-false (addressOf request) 0 (not-true _ (a .0)); read = b .0; loud = not-true _ (b .1) }
 
-heard-so : (request : List ℕ) → (addressOf request ≡ 0 → ⊥) → isRead request ≡ true → silence (addressOf request) request ≡ false → heard request ≡ true
+pub heard-so : (request : List ℕ) → (addressOf request ≡ 0 → ⊥) → isRead request ≡ true → silence (addressOf request) request ≡ false → heard request ≡ true
 unfolding heard
 heard-so request own read loud = rw (ne-eqb (addressOf request) 0 own, read, loud) refl
 

@@ -9,7 +9,7 @@ use Rattle.meter.specs.declared.samples.Sample.{Sample}
 use Rattle.meter.specs.declared.Meter.{Meter}
 use Rattle.meter.specs.Samples.{sampleOk}
 use Rattle.meter.specs.Energies.{plusOf, valueOf}
-use Rattle.meter.specs.Meters.{meterT, meterOk, blankOf, newOf}
+use Rattle.meter.specs.Meters.{meterT, meterOk, blankOf}
 use Rattle.meter.specs.After.{nextOf, meterBelowTop, afterOf}
 use Rattle.meter.specs.Histories.{energyAt, carriesFor, isAccepted, addedBy, EnergyIsSum}
 use Rattle.meter.proofs.Cases.{chosen}

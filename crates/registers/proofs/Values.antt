@@ -14,9 +14,8 @@ use Rattle.words.proofs.Signs.{twos-plain}
 use Rattle.ratio.specs.Powers.{powerLimit, powerRegister, signWord, signedPower}
 use Rattle.ratio.specs.Energies.{topWh, registerOf, wrapOf, lowOf, highOf}
 use Rattle.meter.specs.declared.energies.Energy.{Energy}
-use Rattle.meter.specs.declared.energies.Energies.{Energies}
 use Rattle.meter.specs.declared.Meter.{Meter}
-use Rattle.meter.specs.Energies.{energyOk, energiesOk}
+use Rattle.meter.specs.Energies.{energyOk}
 use Rattle.meter.specs.Meters.{meterT, meterOk}
 use Rattle.meter.specs.Histories.{energiesOf, energyAt}
 use Rattle.meter.proofs.Tests.{both}

@@ -1,8 +1,7 @@
 -- A thousand turns, one fewer left at each; the buffer keeps its length.
-use mathlib.Core.Path.{_≡_, refl, sym, _∙_}
+use mathlib.Core.Path.{_≡_}
 use Prim.Native.Nat.{_≤_, _-_}
 use lib.ListN.{length}
-use native.Mathlib.Omega.{arith}
 use borrow.Author.Needs.{needs}
 use Rattle.cost.proofs.polls.answered.Statement.{statement}
 use Rattle.cost.proofs.polls.answered.Tie as tie

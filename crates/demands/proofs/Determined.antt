@@ -1,0 +1,74 @@
+-- The numbers of an answer give it back, so two outcomes that agree with what is defined agree with each other.
+use mathlib.Core.Path.{_≡_, refl, sym, ap, _∙_}
+use mathlib.Core.List.{List}
+use Prim.Native.Nat.{ℕ}
+use native.Mathlib.Omega.{arith}
+use lib.ListN.{getD}
+use Rattle.refusal.proofs.Distinct.{one-reason-each}
+use Rattle.ratio.specs.declared.Joined.{Joined}
+use Rattle.ratio.specs.declared.Joined.the-variants as joined
+use Rattle.reading.proofs.Told.{one-answer-each}
+use Rattle.meter.specs.declared.Answer as meter
+use Rattle.meter.specs.declared.Answer.the-variants as taken
+use Rattle.meter.specs.declared.Answered.{Answered}
+use Rattle.board.specs.declared.Reply.{Reply}
+use Rattle.board.specs.declared.Reply.the-variants as board
+use Rattle.board.specs.declared.Handled.{Handled}
+use Rattle.board.specs.Board.{Outcome}
+use Rattle.demands.specs.Determined.{answerTold, replyTold, joinTold, AnswerAllowed, ReplyAllowed, Determined, Once}
+
+-- the case of an answer, and the number behind it
+abbrev caseIn : List ℕ → ℕ
+caseIn l = getD l 0 0
+
+abbrev numberIn : List ℕ → ℕ
+numberIn l = getD l 1 0
+
+answer-back : (a b : meter.Answer) → answerTold a ≡ answerTold b → a ≡ b
+answer-back taken.Accepted taken.Accepted e = refl
+answer-back taken.Accepted (taken.Refused r) e = absurd (omega (arith, ap caseIn e))
+answer-back (taken.Refused r) taken.Accepted e = absurd (omega (arith, ap caseIn e))
+answer-back (taken.Refused r) (taken.Refused s) e = ap taken.Refused (one-reason-each .refusals r s (ap numberIn e))
+
+reply-back : (a b : Reply) → replyTold a ≡ replyTold b → a ≡ b
+reply-back board.Silent board.Silent e = refl
+reply-back board.Silent (board.Sent n) e = absurd (omega (arith, ap caseIn e))
+reply-back board.Silent (board.Refused r) e = absurd (omega (arith, ap caseIn e))
+reply-back (board.Sent n) board.Silent e = absurd (omega (arith, ap caseIn e))
+reply-back (board.Sent n) (board.Sent k) e = ap board.Sent (ap numberIn e)
+reply-back (board.Sent n) (board.Refused r) e = absurd (omega (arith, ap caseIn e))
+reply-back (board.Refused r) board.Silent e = absurd (omega (arith, ap caseIn e))
+reply-back (board.Refused r) (board.Sent n) e = absurd (omega (arith, ap caseIn e))
+reply-back (board.Refused r) (board.Refused s) e = ap board.Refused (one-reason-each .refusals r s (ap numberIn e))
+
+join-back : (a b : Joined) → joinTold a ≡ joinTold b → a ≡ b
+join-back (joined.Energy x) (joined.Energy y) e = ap (λ (n : ℕ). joined.Energy (record { 0 = n })) (ap numberIn e)
+join-back (joined.Energy x) (joined.Refused r) e = absurd (omega (arith, ap caseIn e))
+join-back (joined.Refused r) (joined.Energy x) e = absurd (omega (arith, ap caseIn e))
+join-back (joined.Refused r) (joined.Refused s) e = ap joined.Refused (one-reason-each .refusals r s (ap numberIn e))
+
+answered-once : (d x y : Answered) → AnswerAllowed d x → AnswerAllowed d y → x ≡ y
+answered-once d x y a b =
+    let answer = answer-back (x .answer) (y .answer) (a .answer ∙ sym (b .answer)) in
+    let meter = a .record-after ∙ sym (b .record-after) in
+    λ i. record { answer = answer i; meter = meter i }
+
+handled-once : (d : Outcome) (x y : Handled) (p q : List ℕ) → ReplyAllowed d x p → ReplyAllowed d y q → (x ≡ y) × (p ≡ q)
+handled-once d x y p q a b =
+    let reply = reply-back (x .reply) (y .reply) (a .answer ∙ sym (b .answer)) in
+    let meter = a .record-after ∙ sym (b .record-after) in
+    (λ i. record { reply = reply i; meter = meter i }, a .bytes ∙ sym (b .bytes))
+
+pub determined : Determined
+determined = record {
+  new = λ address r x y a b. answered-once _ x y a b;
+  sample = λ m s x y a b. answered-once _ x y a b;
+  frame = λ m frame b x y p q h k. handled-once _ x y p q h k;
+  reply = λ request reply r index x y a b. one-answer-each .answers x y (a ∙ sym b);
+  counts = λ r count wrap x y a b. join-back x y (a ∙ sym b);
+  halves = λ low high x y a b. join-back x y (a ∙ sym b);
+  put = λ before n x y p q a b. (a .answer ∙ sym (b .answer), a .bytes ∙ sym (b .bytes));
+}
+
+pub once : Once
+once = record { same = λ A defined x y a b. a ∙ sym b }

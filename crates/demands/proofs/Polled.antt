@@ -1,0 +1,74 @@
+-- The request has eight bytes with their CRC; its start finds the item again, and the item sends the words asked.
+use mathlib.Core.Path.{_≡_, refl}
+use mathlib.Core.Bool.{true, false, not, and-false}
+use mathlib.Core.List.{List, [], _∷_, _++_}
+use Prim.Native.Nat.{ℕ, zero, suc, _≤_, _<_}
+use native.Mathlib.Omega.{arith}
+use lib.Dec.{eqb}
+use lib.ListN.{length, getD}
+use borrow.Author.Tests.{eq-eqb, le-ltb}
+use Rattle.crc.proofs.Laws.{intact-is-sealed}
+use Rattle.words.specs.Words.{word}
+use Rattle.directory.specs.declared.Item.{Item}
+use Rattle.directory.specs.declared.Span.the-variants.{Items}
+use Rattle.directory.specs.declared.Found.the-variants.{At}
+use Rattle.directory.specs.Item.{none}
+use Rattle.directory.specs.Table.{directory}
+use Rattle.directory.specs.Run.{findIn, runFrom, runIn}
+use Rattle.directory.proofs.Order.{ruled-narrow}
+use Rattle.directory.proofs.Rules.{directory-ruled, directory-rules}
+use Rattle.modbus.specs.Frame.{numberOf, startOf, silence}
+use Rattle.modbus.specs.Read.{readIn}
+use Rattle.modbus.proofs.Judged.{read-when}
+use Rattle.meter.proofs.Parts.{meter-parts}
+use Rattle.collector.specs.Collector.{heard}
+use Rattle.demands.specs.Polled.{requestFor, EveryItemPolled}
+use Rattle.demands.proofs.Polls.{heard-so, with-data}
+
+-- an item of one word or two is a run by itself
+module _ (i : ℕ) (start : ℕ) (it : Item) (same : getD directory i none ≡ it) (found : findIn directory start 0 ≡ At i) where
+  alone : (n : ℕ) → it .words ≡ n → 1 ≤ n → n ≤ 2 → runIn directory start n ≡ Items i 1
+  unfolding runIn runFrom
+  alone zero e a b = absurd (omega (arith, a))
+  alone (suc zero) e a b = rw (found, same, e) refl
+  alone (suc (suc zero)) e a b = rw (found, same, e) refl
+  alone (suc (suc (suc n))) e a b = absurd (omega (arith, b))
+
+module _ (address i : ℕ) (l : i < length directory) where
+  abbrev it : Item
+  it = getD directory i none
+
+  abbrev request : List ℕ
+  request = requestFor address it
+
+  start : startOf request ≡ it .start
+  start = omega arith
+
+  number : numberOf request ≡ it .words
+  number = omega arith
+
+  pub items : readIn directory request ≡ Items i 1
+  items =
+      let narrow = ruled-narrow directory directory-ruled i l in
+      read-when .items directory request i 1 .1
+      (
+        refl,
+        rw number (rw (le-ltb (it .words) 1 (narrow .some), le-ltb 120 (it .words) (omega (arith, narrow .few))) refl),
+        rw (start, number) (alone i (it .start) it refl (directory-rules .found i l) (it .words) refl (narrow .some) (narrow .few)),
+      )
+
+  loud : silence address request ≡ false
+  unfolding silence
+  loud = rw (intact-is-sealed .passes ((address ∷ 0x03 ∷ []) ++ word (it .start) ++ word (it .words)), eq-eqb address address refl, and-false (not (eqb address 0))) refl
+
+  pub hears : 1 ≤ address → heard request ≡ true
+  hears some = heard-so request (λ z. omega (arith, z, some)) refl loud
+
+pub every-item-polled : EveryItemPolled
+every-item-polled = record {
+  hears = λ address i some l. hears address i l some;
+  items = items;
+  data-sent = λ m i b ok l room.
+      with-data .same m (requestFor (m .address) (getD directory i none)) b (record { within = ok; room = room; own = refl }) .0
+      (record { hears = hears (m .address) i l (meter-parts m ok .address); first = i; count = 1; items = items (m .address) i l });
+}

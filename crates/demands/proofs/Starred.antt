@@ -1,0 +1,19 @@
+-- Both sides are computed.
+use mathlib.Core.Path.{refl}
+use lib.Bits.{bitXor}
+use Rattle.crc.specs.Crc.{shift, shifts, crcFrom, intact}
+use Rattle.words.specs.Words.{sent, valueAt}
+use Rattle.words.specs.Signed.{twos}
+use Rattle.ratio.specs.Powers.{powerUnit}
+use Rattle.ratio.specs.Energies.{stepOf}
+use Rattle.directory.specs.Table.{directory}
+use Rattle.directory.specs.Run.{findIn, runFrom, runIn, wordsOf}
+use Rattle.modbus.specs.Frame.{silence}
+use Rattle.modbus.specs.Read.{readIn}
+use Rattle.reading.specs.Readings.{longOf}
+use Rattle.collector.specs.Collector.{heard, itemOf, replyOf, collectorOf}
+use Rattle.demands.specs.Starred.{starred, ExamplesHold}
+
+pub examples-hold : ExamplesHold
+unfolding starred shift shifts crcFrom intact sent valueAt twos powerUnit stepOf directory findIn runFrom runIn wordsOf silence readIn longOf heard itemOf replyOf collectorOf bitXor
+examples-hold = record { agree = refl }

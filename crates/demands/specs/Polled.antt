@@ -1,0 +1,28 @@
+-- Each item of the directory can be asked for by itself, so no promise of a read is empty: the places of `EnergyPlaces` among them.
+use mathlib.Core.Path.{_≡_}
+use Prim.Native.Nat.{ℕ, _≤_, _<_}
+use mathlib.Core.Bool.{true}
+use mathlib.Core.List.{List, [], _∷_, _++_}
+use lib.ListN.{length, getD}
+use Rattle.crc.specs.Crc.{sealed}
+use Rattle.words.specs.Words.{word}
+use Rattle.directory.specs.declared.Item.{Item}
+use Rattle.directory.specs.declared.Span.the-variants.{Items}
+use Rattle.directory.specs.Item.{none}
+use Rattle.directory.specs.Table.{directory}
+use Rattle.modbus.specs.Frame.{isRead}
+use Rattle.modbus.specs.Read.{readIn}
+use Rattle.meter.specs.declared.Meter.{Meter}
+use Rattle.meter.specs.Meters.{meterOk}
+use Rattle.collector.specs.Collector.{heard}
+use Rattle.demands.specs.RoundTrip.{replyTo}
+
+-- the read of one item
+abbrev pub requestFor : ℕ → Item → List ℕ
+requestFor address it = sealed ((address ∷ 0x03 ∷ []) ++ word (it .start) ++ word (it .words))
+
+-- STATEMENT: each item is heard and found by its read, which a meter within limits answers with data: it neither refuses nor stays silent
+pub record EveryItemPolled : Type 0 where
+  pub hears : (address i : ℕ) → 1 ≤ address → i < length directory → heard (requestFor address (getD directory i none)) ≡ true
+  pub items : (address i : ℕ) → i < length directory → readIn directory (requestFor address (getD directory i none)) ≡ Items i 1
+  pub data-sent : (m : Meter) (i : ℕ) (b : List ℕ) → meterOk m ≡ true → i < length directory → 256 ≤ length b → isRead (replyTo m (requestFor (m .address) (getD directory i none)) b) ≡ true
