@@ -21,7 +21,7 @@ use Rattle.directory.specs.Run.{runItems}
 use Rattle.directory.proofs.Rules.{directory-ruled}
 use Rattle.directory.proofs.Sends.{run-sends}
 use Rattle.modbus.specs.declared.Verdict.the-variants.{Wrong}
-use Rattle.modbus.specs.Frame.{addressOf, functionOf, numberOf, isRead, isWrite}
+use Rattle.modbus.specs.Frame.{addressOf, functionOf, wordNumber, isRead, isWrite}
 use Rattle.modbus.specs.Replies.{errorReply, echoReply, dataReply}
 use Rattle.modbus.proofs.Frames.{shaped-length}
 use Rattle.modbus.proofs.Judged.{asks}
@@ -71,7 +71,7 @@ gives-long m frame bytes n (shows first count r s e k) =
     let a = asks directory frame first count s in
     let its = runItems directory first count in
     let sends = run-sends .sends directory _ _ first count directory-ruled (a .run) in
-    let bs = addressOf frame ∷ functionOf frame ∷ 2 * numberOf frame ∷ itemsSent m its in
+    let bs = addressOf frame ∷ functionOf frame ∷ 2 * wordNumber frame ∷ itemsSent m its in
     rw e (omega (arith, length-seal bs, length-items m its, sends, a .most))
 gives-long m frame bytes n (miswritten code w v e k) = rw e (omega arith)
 gives-long m frame bytes n (stores w v e k) =
@@ -90,7 +90,7 @@ gives-sealed : (m : Meter) (frame bytes : List ℕ) (n : Meter) → Gives m fram
 gives-sealed m frame bytes n (other r w e k) = error-sealed frame Function bytes e
 gives-sealed m frame bytes n (misread code r s e k) = error-sealed frame code bytes e
 gives-sealed m frame bytes n (shows first count r s e k) =
-    record { before = addressOf frame ∷ functionOf frame ∷ 2 * numberOf frame ∷ itemsSent m (runItems directory first count); is = e }
+    record { before = addressOf frame ∷ functionOf frame ∷ 2 * wordNumber frame ∷ itemsSent m (runItems directory first count); is = e }
 gives-sealed m frame bytes n (miswritten code w v e k) = error-sealed frame code bytes e
 gives-sealed m frame bytes n (stores w v e k) = record { before = take 6 frame; is = e }
 

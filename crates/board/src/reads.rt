@@ -16,9 +16,6 @@ use directory::Span;
 use directory::table;
 use meter::Meter;
 
-// Before the words of a data reply: address, function and byte number.
-const HEAD: usize = 3;
-
 // Puts the reply at the start of the buffer, and answers its length.
 pub(crate) fn read(m: Meter, frame: &[u8], buffer: &mut [u8]) -> usize
     requires { ⌜ meterOk m ≡ true ⌝ }
@@ -63,7 +60,7 @@ fn put_data(
 {
     buffer[0] = frame[0];
     buffer[1] = frame[1];
-    buffer[2] = (2 * words::word_at(frame, 4)) as u8;
+    buffer[2] = (2 * words::word_at(frame, modbus::WORD_NUMBER)) as u8;
     let end = put_items(t, m, first, count, buffer);
     crc::put(buffer, end);
     end + 2
@@ -78,7 +75,7 @@ fn put_items(t: &[u16], m: Meter, first: usize, count: usize, buffer: &mut [u8])
     ensures { λ r. ⌜ r ≡ 3 + 2 * wordsOf (runItems directory first count) ⌝ }
     ensures { λ _. ⌜ now (buffer .exit) ≡ sets (now (buffer .entry)) 3 (itemsSent m (runItems directory first count)) ⌝ }
 {
-    let mut at = HEAD;
+    let mut at = modbus::DATA_HEAD;
     let mut i: usize = 0;
     while i < count {
         let it = directory::item_at(t, first + i);

@@ -24,7 +24,7 @@ use Rattle.directory.specs.Table.{directory}
 use Rattle.directory.specs.Run.{runItems}
 use Rattle.directory.proofs.Rules.{directory-ruled}
 use Rattle.directory.proofs.Sends.{run-sends}
-use Rattle.modbus.specs.Frame.{addressOf, startOf, numberOf}
+use Rattle.modbus.specs.Frame.{addressOf, startOf, wordNumber}
 use Rattle.modbus.specs.Read.{readIn}
 use Rattle.modbus.proofs.Frames.{neither}
 use Rattle.modbus.proofs.Judged.{asks}
@@ -36,7 +36,7 @@ use Rattle.reading.specs.Readings.{readingOf}
 use Rattle.reading.proofs.Thirteen.{Entry, item-entry, thirteen-when}
 use Rattle.reading.proofs.Thirteen.Entry.{reads, refused}
 use Rattle.collector.specs.Collector.{heard, lengthWrong, isReadError, foreign, thirdOf, codeOf, errorOf, misfit, placeOf, itemOf, replyOf, collectorOf}
-use Rattle.collector.specs.Answers.{Asks, Asked, Heard, Fits, Holds, itemAt, valueIn, errorMisfit, Row, Errs, Reads, ExactlyWhen, NotMisread}
+use Rattle.collector.specs.Answers.{Asks, Asked, Sound, Fits, Holds, itemAt, valueIn, errorMisfit, Row, Errs, Reads, ExactlyWhen, NotMisread}
 use Rattle.collector.proofs.Places.{run-length, run-at, item-past, item-reads}
 use Rattle.collector.proofs.Judged.{length-refused, crc-refused, foreign-refused, error-given, misfit-refused, item-given, fitting}
 
@@ -78,16 +78,16 @@ module _ (request reply : List ℕ) (r : Ratios) (index : ℕ) where
 
   -- the items of a run stand in the directory
   run-inside : (a : Asks request) → a .first + a .count ≤ length directory
-  run-inside a = run-sends .inside directory (startOf request) (numberOf request) (a .first) (a .count) directory-ruled (asks directory request (a .first) (a .count) (a .items) .run)
+  run-inside a = run-sends .inside directory (startOf request) (wordNumber request) (a .first) (a .count) directory-ruled (asks directory request (a .first) (a .count) (a .items) .run)
 
-  to-item : (f : Fits request reply r) → answer ≡ itemOf (tOf r) (runItems directory (f .hears .asked .asks .first) (f .hears .asked .asks .count)) reply index
+  to-item : (f : Fits request reply r) → answer ≡ itemOf (tOf r) (runItems directory (f .sound .asked .asks .first) (f .sound .asked .asks .count)) reply index
   to-item f =
-      let h = f .hears in
+      let h = f .sound in
       to-reply (h .asked) ∙ sym (item-given (tOf r) request reply (runItems directory (h .asked .asks .first) (h .asked .asks .count)) index (h .long) (h .whole) (h .own) (f .words) (f .fits))
 
-  to-reading : (h : Holds request reply r index) → answer ≡ readingOf (tOf r) (itemAt (h .fits .hears .asked .asks) index) (valueIn (h .fits .hears .asked .asks) reply index)
+  to-reading : (h : Holds request reply r index) → answer ≡ readingOf (tOf r) (itemAt (h .fits .sound .asked .asks) index) (valueIn (h .fits .sound .asked .asks) reply index)
   to-reading h =
-      let a = h .fits .hears .asked .asks in
+      let a = h .fits .sound .asked .asks in
       let its = runItems directory (a .first) (a .count) in
       to-item (h .fits)
       ∙ item-reads (tOf r) its reply index (omega (arith, h .below, run-length directory (a .first) (a .count) (run-inside a)))
@@ -116,10 +116,10 @@ module _ (request reply : List ℕ) (r : Ratios) (index : ℕ) where
       to-reply (h .asked) ∙ sym (error-given _ _ _ _ _ (h .long) (h .whole) (h .own) (m .0)) ∙ error-refused reply (m .1)
   row ReplyMisfit (h, inr m) = to-reply (h .asked) ∙ sym (misfit-refused _ _ _ _ _ (h .long) (h .whole) (h .own) (m .0) (m .1))
   row IndexPastItems h =
-      let a = h .fits .hears .asked .asks in
+      let a = h .fits .sound .asked .asks in
       to-item (h .fits) ∙ sym (item-past _ _ _ _ (omega (arith, h .past, run-length directory (a .first) (a .count) (run-inside a))))
   row ValueImpossible h =
-      let a = h .holds .fits .hears .asked .asks in
+      let a = h .holds .fits .sound .asked .asks in
       to-reading (h .holds) ∙ thirteen-when .refused (tOf r) (a .first + index) (valueIn a reply index) (omega (arith, run-inside a, h .holds .below)) .1 (h .value)
   row MeterOutOfLimits h = absurd h
   row BufferShort h = absurd h
@@ -130,7 +130,7 @@ module _ (request reply : List ℕ) (r : Ratios) (index : ℕ) where
 
   errs : (code : ErrorCode) → Errs request reply r code → answer ≡ Error code
   errs code h =
-      let s = h .hears in
+      let s = h .sound in
       to-reply (s .asked) ∙ sym (error-given _ _ _ _ _ (s .long) (s .whole) (s .own) (h .error)) ∙ error-code reply code (h .long) (h .says)
 
   reading : (q : Quantity) → Reads request reply r index q → answer ≡ Reading q
@@ -153,11 +153,11 @@ module _ (request reply : List ℕ) (r : Ratios) (index : ℕ) where
   -- 13, or the reading
   at-item : (h : Holds request reply r index) → Comes
   at-item h =
-      let a = h .fits .hears .asked .asks in
+      let a = h .fits .sound .asked .asks in
       by (item-entry (tOf r) (itemAt a index) (valueIn a reply index))
     where
       a : Asks request
-      a = h .fits .hears .asked .asks
+      a = h .fits .sound .asked .asks
 
       by : {k : ℕ} → Entry k (readingOf (tOf r) (itemAt a index) (valueIn a reply index)) → Comes
       by (reads q e k) = tells q (record { holds = h; reading = e })
@@ -168,14 +168,14 @@ module _ (request reply : List ℕ) (r : Ratios) (index : ℕ) where
   at-index f = by (ltb index n) refl
     where
       n : ℕ
-      n = f .hears .asked .asks .count
+      n = f .sound .asked .asks .count
 
       by : (t : Bool) → ltb index n ≡ t → Comes
       by true e = at-item (record { fits = f; below = ltb-true index n e })
       by false e = refuses IndexPastItems (record { fits = f; past = ltb-false index n e })
 
   -- the code of an error reply
-  at-code : (h : Heard request reply r) → isReadError reply ≡ true → errorMisfit reply ≡ false → Comes
+  at-code : (h : Sound request reply r) → isReadError reply ≡ true → errorMisfit reply ≡ false → Comes
   at-code h e m = by (eqb n 1) (eqb n 2) refl refl
     where
       n : ℕ
@@ -191,19 +191,19 @@ module _ (request reply : List ℕ) (r : Ratios) (index : ℕ) where
       range = let t = neither (ltb n 1) (ltb 3 n) (parts .1) in (ltb-false n 1 (t .0), ltb-false 3 n (t .1))
 
       by : (a b : Bool) → eqb n 1 ≡ a → eqb n 2 ≡ b → Comes
-      by true b x y = errors Function (record { hears = h; error = e; long = five; says = eqb-true n 1 x })
-      by false true x y = errors Address (record { hears = h; error = e; long = five; says = eqb-true n 2 y })
-      by false false x y = errors Data (record { hears = h; error = e; long = five; says = omega (arith, range, eqb-false n 1 x, eqb-false n 2 y) })
+      by true b x y = errors Function (record { sound = h; error = e; long = five; says = eqb-true n 1 x })
+      by false true x y = errors Address (record { sound = h; error = e; long = five; says = eqb-true n 2 y })
+      by false false x y = errors Data (record { sound = h; error = e; long = five; says = omega (arith, range, eqb-false n 1 x, eqb-false n 2 y) })
 
   -- 11
-  at-shape : (h : Heard request reply r) → Comes
+  at-shape : (h : Sound request reply r) → Comes
   at-shape h = by (isReadError reply) (errorMisfit reply) (misfit request reply) refl refl refl
     where
       by : (e m d : Bool) → isReadError reply ≡ e → errorMisfit reply ≡ m → misfit request reply ≡ d → Comes
       by true true d x y z = refuses ReplyMisfit (h, inl (x, y))
       by true false d x y z = at-code h x y
       by false m true x y z = refuses ReplyMisfit (h, inr (x, z))
-      by false m false x y z = at-index (record { hears = h; words = x; fits = z })
+      by false m false x y z = at-index (record { sound = h; words = x; fits = z })
 
   -- 8 to 10
   at-reply : (a : Asked request r) → Comes
@@ -282,6 +282,6 @@ same-address request reply h =
 
 pub not-misread : NotMisread
 not-misread = record {
-  reading = λ request reply r index q h. let f = exactly-when .reading request reply r index q .0 h .holds .fits in (f .hears .whole, same-address request reply (f .hears .own), fitting request reply (f .fits));
-  error = λ request reply r index code h. let s = exactly-when .error request reply r index code .0 h .hears in (s .whole, same-address request reply (s .own));
+  reading = λ request reply r index q h. let f = exactly-when .reading request reply r index q .0 h .holds .fits in (f .sound .whole, same-address request reply (f .sound .own), fitting request reply (f .fits));
+  error = λ request reply r index code h. let s = exactly-when .error request reply r index code .0 h .sound in (s .whole, same-address request reply (s .own));
 }

@@ -10,7 +10,7 @@ use borrow.Author.Tests.{not-false, eqb-true}
 use Rattle.refusal.specs.declared.Refusal.the-variants.{ReplyLength, ReplyCrc, ReplyForeign, ReplyMisfit}
 use Rattle.crc.specs.Crc.{intact}
 use Rattle.directory.specs.declared.Item.{Item}
-use Rattle.modbus.specs.Frame.{numberOf}
+use Rattle.modbus.specs.Frame.{wordNumber}
 use Rattle.modbus.proofs.Frames.{neither}
 use Rattle.reading.specs.declared.Answer.the-variants.{Refused}
 use Rattle.collector.specs.Collector.{lengthWrong, foreign, isReadError, thirdOf, errorOf, misfit, itemOf, replyOf}
@@ -42,11 +42,11 @@ module _ (t : ℕ) (request reply : List ℕ) (its : List Item) (index : ℕ) wh
 
 module _ (request reply : List ℕ) where
   -- the words asked, as they are read off the request
-  pub misfit-read : (words : ℕ) (t : Bool) → words ≡ numberOf request → (not (eqb (thirdOf reply) (2 * words)) || not (eqb (length reply) (5 + thirdOf reply))) ≡ t → misfit request reply ≡ t
+  pub misfit-read : (words : ℕ) (t : Bool) → words ≡ wordNumber request → (not (eqb (thirdOf reply) (2 * words)) || not (eqb (length reply) (5 + thirdOf reply))) ≡ t → misfit request reply ≡ t
   misfit-read words t e h = rw (sym e) h
 
   -- what fits is as long as its head, its words and its CRC
-  pub fitting : misfit request reply ≡ false → length reply ≡ 5 + 2 * numberOf request
+  pub fitting : misfit request reply ≡ false → length reply ≡ 5 + 2 * wordNumber request
   fitting h =
-      let n = neither (not (eqb (thirdOf reply) (2 * numberOf request))) (not (eqb (length reply) (5 + thirdOf reply))) h in
-      omega (arith, eqb-true (thirdOf reply) (2 * numberOf request) (not-false _ (n .0)), eqb-true (length reply) (5 + thirdOf reply) (not-false _ (n .1)))
+      let n = neither (not (eqb (thirdOf reply) (2 * wordNumber request))) (not (eqb (length reply) (5 + thirdOf reply))) h in
+      omega (arith, eqb-true (thirdOf reply) (2 * wordNumber request) (not-false _ (n .0)), eqb-true (length reply) (5 + thirdOf reply) (not-false _ (n .1)))

@@ -23,7 +23,7 @@ use Rattle.directory.specs.declared.Span.the-variants.{Items}
 use Rattle.directory.specs.Item.{none}
 use Rattle.directory.specs.Table.{directory}
 use Rattle.directory.specs.Run.{runItems}
-use Rattle.modbus.specs.Frame.{addressOf, numberOf}
+use Rattle.modbus.specs.Frame.{addressOf, wordNumber}
 use Rattle.modbus.specs.Read.{readIn}
 use Rattle.reading.specs.declared.Quantity.{Quantity}
 use Rattle.reading.specs.declared.Answer.the-variants.{Reading, Error, Refused}
@@ -44,23 +44,23 @@ pub record Asked (request : List ℕ) (r : Ratios) : Type 0 where
   pub asks : Asks request
 
 -- 8 to 10 are passed
-pub record Heard (request reply : List ℕ) (r : Ratios) : Type 0 where
+pub record Sound (request reply : List ℕ) (r : Ratios) : Type 0 where
   pub asked : Asked request r
   pub long : lengthWrong reply ≡ false
   pub whole : intact reply ≡ true
   pub own : foreign request reply ≡ false
 
--- and 11, with 0x03
+-- and 11 is passed, with 0x03
 pub record Fits (request reply : List ℕ) (r : Ratios) : Type 0 where
-  pub hears : Heard request reply r
+  pub sound : Sound request reply r
   pub words : isReadError reply ≡ false
   pub fits : misfit request reply ≡ false
 
 -- what was asked for, of a reply that fits
 abbrev pub askedBy : {request reply : List ℕ} {r : Ratios} → Fits request reply r → Asks request
-askedBy fits = fits .hears .asked .asks
+askedBy fits = fits .sound .asked .asks
 
--- and 12
+-- and 12 is passed
 pub record Holds (request reply : List ℕ) (r : Ratios) (index : ℕ) : Type 0 where
   pub fits : Fits request reply r
   pub below : index < askedBy fits .count
@@ -94,7 +94,7 @@ Row NotARead request reply r index = (ratiosOk r ≡ true) × (Asks request → 
 Row ReplyLength request reply r index = Asked request r × (lengthWrong reply ≡ true)
 Row ReplyCrc request reply r index = Asked request r × (lengthWrong reply ≡ false) × (intact reply ≡ false)
 Row ReplyForeign request reply r index = Asked request r × (lengthWrong reply ≡ false) × (intact reply ≡ true) × (foreign request reply ≡ true)
-Row ReplyMisfit request reply r index = Heard request reply r × (((isReadError reply ≡ true) × (errorMisfit reply ≡ true)) ⊎ ((isReadError reply ≡ false) × (misfit request reply ≡ true)))
+Row ReplyMisfit request reply r index = Sound request reply r × (((isReadError reply ≡ true) × (errorMisfit reply ≡ true)) ⊎ ((isReadError reply ≡ false) × (misfit request reply ≡ true)))
 Row IndexPastItems request reply r index = Past request reply r index
 Row ValueImpossible request reply r index = Impossible request reply r index
 -- these are never given to a reading
@@ -107,7 +107,7 @@ Row JoinPastTop request reply r index = ⊥
 
 -- the meter's error code, given after 11 whatever the index
 pub record Errs (request reply : List ℕ) (r : Ratios) (code : ErrorCode) : Type 0 where
-  pub hears : Heard request reply r
+  pub sound : Sound request reply r
   pub error : isReadError reply ≡ true
   pub long : length reply ≡ 5
   pub says : thirdOf reply ≡ errorNumber code
@@ -125,7 +125,7 @@ pub record ExactlyWhen : Type 0 where
 
 -- STATEMENT: nothing is read out of a reply whose CRC is wrong, whose address is another's, or whose words are not as many as were asked
 pub record NotMisread : Type 0 where
-  pub reading : (request reply : List ℕ) (r : Ratios) (index : ℕ) (q : Quantity) → collectorOf request reply r index ≡ Reading q → (intact reply ≡ true) × (addressOf reply ≡ addressOf request) × (length reply ≡ 5 + 2 * numberOf request)
+  pub reading : (request reply : List ℕ) (r : Ratios) (index : ℕ) (q : Quantity) → collectorOf request reply r index ≡ Reading q → (intact reply ≡ true) × (addressOf reply ≡ addressOf request) × (length reply ≡ 5 + 2 * wordNumber request)
   pub error : (request reply : List ℕ) (r : Ratios) (index : ℕ) (code : ErrorCode) → collectorOf request reply r index ≡ Error code → (intact reply ≡ true) × (addressOf reply ≡ addressOf request)
 
 -- STATEMENT: joining: 3 (counts only), then 14, exactly when count, Low or High is over its top

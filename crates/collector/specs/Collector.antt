@@ -17,7 +17,7 @@ use Rattle.directory.specs.declared.Span.the-variants as span
 use Rattle.directory.specs.Item.{none}
 use Rattle.directory.specs.Table.{directory}
 use Rattle.directory.specs.Run.{runItems, wordsOf}
-use Rattle.modbus.specs.Frame.{addressOf, functionOf, isRead, numberOf, silence}
+use Rattle.modbus.specs.Frame.{addressOf, functionOf, isRead, wordNumber, silence}
 use Rattle.modbus.specs.Read.{readIn}
 use Rattle.reading.specs.declared.Answer.{Answer}
 use Rattle.reading.specs.declared.Answer.the-variants.{Error, Refused}
@@ -58,7 +58,7 @@ errorOf reply = cond (not (eqb (length reply) 5)) (Refused ReplyMisfit) (codeOf 
 
 -- 11, of 0x03: byte number not twice the words asked, or length not 5 plus it
 abbrev pub misfit : List ℕ → List ℕ → Bool
-misfit request reply = not (eqb (thirdOf reply) (2 * numberOf request)) || not (eqb (length reply) (5 + thirdOf reply))
+misfit request reply = not (eqb (thirdOf reply) (2 * wordNumber request)) || not (eqb (length reply) (5 + thirdOf reply))
 
 -- where an item's words stand: behind address, function and byte number, and behind the words of the items before it
 abbrev pub placeOf : List Item → ℕ → ℕ

@@ -28,9 +28,7 @@ pub use signed::Signed;
 // The function of an error reply to a read.
 const READ_ERROR: u8 = modbus::READ + modbus::ERROR;
 
-// Before the data of a reply: address, function and byte number. Behind it the CRC.
-const HEAD: usize = 3;
-
+// A data reply without data, and the length of an error reply.
 const REPLY_LEAST: usize = 5;
 
 // From here on addresses count words. Before, they count bytes, and what fills one is a B.
@@ -104,13 +102,12 @@ fn replied(
         return error(reply);
     }
     let bytes = reply[2] as usize;
-    if (bytes != 2 * words::word_at(request, 4) as usize) | (n != REPLY_LEAST + bytes) {
+    if (bytes != 2 * words::word_at(request, modbus::WORD_NUMBER) as usize) | (n != REPLY_LEAST + bytes) {
         return Answer::Refused(Refusal::ReplyMisfit);
     }
     item(t, reply, tenths, first, count, index)
 }
 
-// The meter's error code.
 fn error(reply: &[u8]) -> Answer
     requires { ⌜ 5 ≤ length (now reply) ⌝ }
     ensures { λ r. ⌜ r ≡ errorOf (now (reply .entry)) ⌝ }
@@ -127,7 +124,6 @@ fn error(reply: &[u8]) -> Answer
     }
 }
 
-// One item of the data.
 fn item(t: &[u16], reply: &[u8], tenths: u32, first: usize, count: usize, index: usize) -> Answer
     requires { ⌜ (568 ≤ length (now t)) × (items (now t) ≡ directory) ⌝ }
     requires { ⌜ first + count ≤ length directory ⌝ }
@@ -154,7 +150,7 @@ fn place(t: &[u16], first: usize, index: usize) -> usize
     requires { ⌜ first + index ≤ length directory ⌝ }
     ensures { λ r. ⌜ r ≡ 3 + 2 * wordsOf (take index (drop first directory)) ⌝ }
 {
-    let mut at = HEAD;
+    let mut at = modbus::DATA_HEAD;
     let mut i: usize = 0;
     while i < index {
         let it = directory::item_at(t, first + i);

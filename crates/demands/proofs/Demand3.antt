@@ -19,8 +19,7 @@ use Rattle.collector.specs.Collector.{collectorOf}
 use Rattle.meter.specs.declared.energies.Energy.{Energy}
 use Rattle.meter.specs.declared.Meter.{Meter}
 use Rattle.meter.specs.Energies.{valueOf}
-use Rattle.meter.specs.Meters.{noEnergy, meterT, meterOk, newOf}
-use Rattle.meter.specs.Histories.{energiesOf, energyAt}
+use Rattle.meter.specs.Meters.{noEnergy, meterT, meterOk, newOf, energiesOf, energyAt}
 use Rattle.meter.proofs.Parts.{energy-rest, meter-parts}
 use Rattle.meter.proofs.Sums.{energy-is-sum}
 use Rattle.meter.proofs.Answers.{new-answers, new-blank}

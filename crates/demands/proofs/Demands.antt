@@ -1,6 +1,6 @@
 -- Each part is proved in its own crate, or beside this file.
 use Rattle.crc.proofs.Laws.{intact-is-sealed}
-use Rattle.directory.proofs.Rules.{directory-rules, energy-places}
+use Rattle.directory.proofs.Rules.{directory-rules, three-tables}
 use Rattle.modbus.proofs.Judged.{read-when}
 use Rattle.reading.proofs.Thirteen.{thirteen-when}
 use Rattle.collector.proofs.Answers as collector
@@ -42,4 +42,4 @@ demand-2 = record {
 }
 
 pub demands : Demands
-demands = record { one = demand-1; two = demand-2; three = demand-3; places = energy-places; tight = shut-out }
+demands = record { one = demand-1; two = demand-2; three = demand-3; places = three-tables; tight = shut-out }

@@ -10,10 +10,9 @@ use Rattle.meter.specs.declared.samples.Sample.{Sample}
 use Rattle.meter.specs.declared.Meter.{Meter}
 use Rattle.meter.specs.Samples.{sampleOk}
 use Rattle.meter.specs.Energies.{valueOf}
-use Rattle.meter.specs.Meters.{meterT, meterOk}
-use Rattle.meter.specs.After.{nextOf, meterBelowTop, afterOf}
-use Rattle.meter.specs.Answers.{withSetup}
-use Rattle.meter.specs.Histories.{energyAt, carriesFor}
+use Rattle.meter.specs.Meters.{meterT, meterOk, withSetup, energyAt}
+use Rattle.meter.specs.After.{nextOf, meterWithinTop, afterOf}
+use Rattle.meter.specs.Carried.{carriesFor}
 use Rattle.meter.proofs.Cases.{chosen}
 use Rattle.meter.proofs.Sums.{energy-is-sum}
 use Rattle.meter.proofs.Answers.{stays-within}
@@ -51,7 +50,7 @@ module _ {A : Type 0} (see : Meter → A) (blind : (m : Meter) (s : Sample) → 
 
   sample-unseen : (m : Meter) (s : Sample) → see (afterOf m s .meter) ≡ see m
   unfolding afterOf
-  sample-unseen m s = chosen-unseen (meterOk m) (sampleOk (meterT m) s) (meterBelowTop (nextOf m s)) m (nextOf m s) (blind m s)
+  sample-unseen m s = chosen-unseen (meterOk m) (sampleOk (meterT m) s) (meterWithinTop (nextOf m s)) m (nextOf m s) (blind m s)
 
 event-address : (m : Meter) (x : Event) → afterEvent m x .address ≡ m .address
 event-address m (Event.sample s) = sample-unseen (λ m. m .address) (λ m s. refl) m s

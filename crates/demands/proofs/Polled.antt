@@ -17,7 +17,7 @@ use Rattle.directory.specs.Table.{directory}
 use Rattle.directory.specs.Run.{findIn, runFrom, runIn}
 use Rattle.directory.proofs.Order.{ruled-narrow}
 use Rattle.directory.proofs.Rules.{directory-ruled, directory-rules}
-use Rattle.modbus.specs.Frame.{numberOf, startOf, silence}
+use Rattle.modbus.specs.Frame.{wordNumber, startOf, silence}
 use Rattle.modbus.specs.Read.{readIn}
 use Rattle.modbus.proofs.Judged.{read-when}
 use Rattle.meter.proofs.Parts.{meter-parts}
@@ -44,7 +44,7 @@ module _ (address i : ℕ) (l : i < length directory) where
   start : startOf request ≡ it .start
   start = omega arith
 
-  number : numberOf request ≡ it .words
+  number : wordNumber request ≡ it .words
   number = omega arith
 
   pub items : readIn directory request ≡ Items i 1

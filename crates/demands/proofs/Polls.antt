@@ -26,7 +26,7 @@ use Rattle.directory.specs.Run.{runItems}
 use Rattle.directory.proofs.Order.{every-at, ruled-narrow}
 use Rattle.directory.proofs.Rules.{directory-ruled}
 use Rattle.directory.proofs.Sends.{run-sends}
-use Rattle.modbus.specs.Frame.{addressOf, functionOf, numberOf, startOf, isRead, isWrite, silence}
+use Rattle.modbus.specs.Frame.{addressOf, functionOf, wordNumber, startOf, isRead, isWrite, silence}
 use Rattle.modbus.specs.Replies.{dataReply, errorReply, echoReply}
 use Rattle.modbus.proofs.Frames.{shaped-length}
 use Rattle.modbus.proofs.Judged.{asks}
@@ -119,12 +119,12 @@ module _ (m : Meter) (request b : List ℕ) (meets : Meets m request b) (a : Ask
 
   -- ---- as the collector judges it
 
-  long : length reply ≡ 5 + 2 * numberOf request
+  long : length reply ≡ 5 + 2 * wordNumber request
   long =
       let q = asks directory request (a .first) (a .count) (a .items) in
-      let sends = run-sends .sends directory (startOf request) (numberOf request) (a .first) (a .count) directory-ruled (q .run) in
+      let sends = run-sends .sends directory (startOf request) (wordNumber request) (a .first) (a .count) directory-ruled (q .run) in
       let words = itemsSent m its in
-      let bs = addressOf request ∷ functionOf request ∷ 2 * numberOf request ∷ words in
+      let bs = addressOf request ∷ functionOf request ∷ 2 * wordNumber request ∷ words in
       length-append bs (onLine (crcOf bs)) ∙ omega (arith, length-items m its, sends)
 
   ratios : ratiosOk (m .ratios) ≡ true
@@ -140,14 +140,14 @@ module _ (m : Meter) (request b : List ℕ) (meets : Meets m request b) (a : Ask
       let other : isReadError reply ≡ false = rw function refl in
       let same : isRead reply ≡ true = rw function refl in
       record {
-        hears = record {
+        sound = record {
           asked = record { ratios = ratios; asks = a };
           long = simp (le-ltb (length reply) 5 (omega (arith, long)), le-ltb 256 (length reply) (omega (arith, long, q .most)));
           whole = gives-whole m request reply m gives;
           own = simp (eq-eqb (addressOf request) (addressOf request) refl, same);
         };
         words = other;
-        fits = simp (eq-eqb (2 * numberOf request) (2 * numberOf request) refl, eq-eqb (length reply) (5 + 2 * numberOf request) long);
+        fits = simp (eq-eqb (2 * wordNumber request) (2 * wordNumber request) refl, eq-eqb (length reply) (5 + 2 * wordNumber request) long);
       }
 
   -- ---- item by item
@@ -157,7 +157,7 @@ module _ (m : Meter) (request b : List ℕ) (meets : Meets m request b) (a : Ask
     it = itemAt a index
 
     inside : a .first + a .count ≤ length directory
-    inside = run-sends .inside directory (startOf request) (numberOf request) (a .first) (a .count) directory-ruled (asks directory request (a .first) (a .count) (a .items) .run)
+    inside = run-sends .inside directory (startOf request) (wordNumber request) (a .first) (a .count) directory-ruled (asks directory request (a .first) (a .count) (a .items) .run)
 
     known : a .first + index < length directory
     known = omega (arith, inside, below)
@@ -171,14 +171,14 @@ module _ (m : Meter) (request b : List ℕ) (meets : Meets m request b) (a : Ask
     value-back : Shows m (it .quantity) → valueIn a reply index ≡ shownOf m (it .quantity)
     value-back fit =
         let v = shownOf m (it .quantity) in
-        let before = addressOf request ∷ functionOf request ∷ 2 * numberOf request ∷ itemsSent m (take index its) in
+        let before = addressOf request ∷ functionOf request ∷ 2 * wordNumber request ∷ itemsSent m (take index its) in
         let after = itemsSent m (drop (suc index) its) in
-        let crc = onLine (crcOf (addressOf request ∷ functionOf request ∷ 2 * numberOf request ∷ itemsSent m its)) in
+        let crc = onLine (crcOf (addressOf request ∷ functionOf request ∷ 2 * wordNumber request ∷ itemsSent m its)) in
         let same = run-at directory (a .first) (a .count) index below in
         let parts : itemsSent m its ≡ itemsSent m (take index its) ++ (sent (it .words) v ++ after) =
         split m its index (omega (arith, below, run-length directory (a .first) (a .count) inside)) ∙ ap (λ (x : Item). itemsSent m (take index its) ++ (sent (x .words) (shownOf m (x .quantity)) ++ after)) same in
         let whole : reply ≡ before ++ sent (it .words) v ++ (after ++ crc) =
-        ap (λ (l : List ℕ). (addressOf request ∷ functionOf request ∷ 2 * numberOf request ∷ l) ++ crc) parts
+        ap (λ (l : List ℕ). (addressOf request ∷ functionOf request ∷ 2 * wordNumber request ∷ l) ++ crc) parts
         ∙ append-assoc before (sent (it .words) v ++ after) crc
         ∙ ap (λ (l : List ℕ). before ++ l) (append-assoc (sent (it .words) v) after crc)
         ∙ sym (append-assoc before (sent (it .words) v) (after ++ crc)) in
@@ -210,7 +210,7 @@ error-given : (request : List ℕ) (r : Ratios) (index : ℕ) (code : ErrorCode)
 error-given request r index code asked =
     exactly-when .error request reply r index code .1
     (record {
-      hears = record {
+      sound = record {
         asked = asked;
         long = refl;
         whole = intact-is-sealed .passes (addressOf request ∷ (functionOf request + 0x80) ∷ errorNumber code ∷ []);

@@ -23,8 +23,7 @@ use Rattle.directory.specs.Table.{directory}
 use Rattle.directory.specs.Order.{roomOf}
 use Rattle.meter.specs.declared.Meter.{Meter}
 use Rattle.meter.specs.Samples.{factorOf}
-use Rattle.meter.specs.Meters.{meterT, meterOk}
-use Rattle.meter.specs.Histories.{energyAt}
+use Rattle.meter.specs.Meters.{meterT, meterOk, energyAt}
 use Rattle.meter.proofs.Tests.{both}
 use Rattle.meter.proofs.Parts.{SampleParts, sample-parts, meter-parts}
 use Rattle.registers.specs.Shown.{powersOf, powerAt, powerValues, signedValues, signValues, countValues, lowValues, highValues, wrapValues, factorValues, plainValues, valuesOf, shownOf}

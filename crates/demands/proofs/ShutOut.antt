@@ -15,7 +15,7 @@ use Rattle.meter.specs.declared.samples.Sample.{Sample}
 use Rattle.meter.specs.declared.Meter.{Meter}
 use Rattle.meter.specs.Samples.{sampleOk, noSample}
 use Rattle.meter.specs.Meters.{meterT, meterOk, newOf}
-use Rattle.meter.specs.After.{nextOf, meterBelowTop, afterOf}
+use Rattle.meter.specs.After.{nextOf, meterWithinTop, afterOf}
 use Rattle.meter.proofs.Parts.{meter-parts}
 use Rattle.meter.proofs.Answers.{new-answers, new-blank, sample-answers}
 use Rattle.demands.specs.Histories.{Event, exactOf}
@@ -67,7 +67,7 @@ takes address r made =
     let ok = new-answers .accepted address r .0 made in
     let latest : m .latest ≡ noSample = ap (λ (x : Meter). x .latest) (new-blank address r) in
     sample-answers .accepted m noSample .1
-    (ok, ap (sampleOk (meterT m)) (sym latest) ∙ meter-parts m ok .latest, ap (λ (x : Meter). meterBelowTop (nextOf x noSample)) (new-blank address r))
+    (ok, ap (sampleOk (meterT m)) (sym latest) ∙ meter-parts m ok .latest, ap (λ (x : Meter). meterWithinTop (nextOf x noSample)) (new-blank address r))
 
 pub shut-out : ShutOut
 shut-out = record { takes = takes; same-each-time = same-each-time; ignores-samples = ignores-samples; first-only = first-only; made-up = made-up }

@@ -1,6 +1,6 @@
 -- The customer's three demands: what each is in one line, and the statements that it comes to.
 use Rattle.crc.specs.Crc.{IntactIsSealed}
-use Rattle.directory.specs.Rules.{DirectoryRules, EnergyPlaces}
+use Rattle.directory.specs.Rules.{DirectoryRules, ThreeTables}
 use Rattle.modbus.specs.Read.{ReadWhen}
 use Rattle.reading.specs.Impossible.{ThirteenWhen}
 use Rattle.collector.specs.Answers as collector
@@ -49,5 +49,5 @@ pub record Demands : Type 1 where
   pub one : Demand1
   pub two : Demand2
   pub three : Demand3
-  pub places : EnergyPlaces
+  pub places : ThreeTables
   pub tight : ShutOut

@@ -6,9 +6,9 @@ use mathlib.Core.List.{List, [], _∷_}
 use Rattle.meter.specs.declared.samples.Sample.{Sample}
 use Rattle.meter.specs.declared.Meter.{Meter}
 use Rattle.meter.specs.Energies.{valueOf}
-use Rattle.meter.specs.Meters.{meterOk}
+use Rattle.meter.specs.Meters.{meterOk, energyAt}
 use Rattle.meter.specs.After.{afterOf}
-use Rattle.meter.specs.Histories.{energyAt, isAccepted, addedBy}
+use Rattle.meter.specs.Carried.{isAccepted, addedBy}
 use Rattle.board.specs.Board.{boardOf}
 
 -- an event: a sample is handed over, or a frame, with a buffer for the reply

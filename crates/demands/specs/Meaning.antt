@@ -14,8 +14,7 @@ use Rattle.directory.specs.Table.{directory}
 use Rattle.meter.specs.declared.energies.Energy.{Energy}
 use Rattle.meter.specs.declared.Meter.{Meter}
 use Rattle.meter.specs.Samples.{factorOf}
-use Rattle.meter.specs.Meters.{meterT, meterOk}
-use Rattle.meter.specs.Histories.{energiesOf}
+use Rattle.meter.specs.Meters.{meterT, meterOk, energiesOf}
 use Rattle.registers.specs.Shown.{powersOf, plainValues, shownOf}
 use Rattle.registers.specs.Cases.{Typed}
 use Rattle.reading.specs.declared.Quantity.{Quantity}

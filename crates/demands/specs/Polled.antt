@@ -1,4 +1,4 @@
--- Each item of the directory can be asked for by itself, so no promise of a read is empty: the places of `EnergyPlaces` among them.
+-- Each item of the directory can be asked for by itself, so no promise of a read is empty: the places of `ThreeTables` among them.
 use mathlib.Core.Path.{_≡_}
 use Prim.Native.Nat.{ℕ, _≤_, _<_}
 use mathlib.Core.Bool.{true}

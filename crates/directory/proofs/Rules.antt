@@ -5,7 +5,7 @@ use lib.Dec.{T}
 use lib.ListN.{length}
 use Rattle.directory.specs.Table.{directory}
 use Rattle.directory.specs.Order.{ascends, every, ruled, shaped, meant}
-use Rattle.directory.specs.Rules.{DirectoryRules, placesOf, EnergyPlaces}
+use Rattle.directory.specs.Rules.{DirectoryRules, placesOf, ThreeTables}
 use Rattle.directory.proofs.Order.{every-at, apart, ruled-ascends}
 use Rattle.directory.proofs.Finds.{found-here, found-starts}
 
@@ -40,6 +40,6 @@ directory-rules = record {
   starts = found-starts directory;
 }
 
-pub energy-places : EnergyPlaces
+pub three-tables : ThreeTables
 unfolding placesOf directory
-energy-places = record { at-posEa = refl; at-posEr = refl; at-negEa = refl; at-negEr = refl }
+three-tables = record { at-posEa = refl; at-posEr = refl; at-negEa = refl; at-negEr = refl }

@@ -109,7 +109,7 @@ S = 8
 abbrev pub wholeS : ℕ
 wholeS = 9
 
--- energies, in the order of the meter's record: +Ea, -Ea, +Er, -Er
+-- energies, in the paper's order: +Ea, -Ea, +Er, -Er
 abbrev pub posEa : ℕ
 posEa = 0
 

@@ -34,7 +34,7 @@ energyPlaces e =
     placesOf (energyCount e) directory ∷ placesOf (wrap e) directory ∷ placesOf (low e) directory ∷ placesOf (high e) directory ∷ []
 
 -- STATEMENT: one energy stands in three tables
-pub record EnergyPlaces : Type 0 where
+pub record ThreeTables : Type 0 where
   pub at-posEa : energyPlaces posEa ≡ (0x325 ∷ 0x101c ∷ []) ∷ (0x1540 ∷ []) ∷ (0x1500 ∷ []) ∷ (0x1502 ∷ []) ∷ []
   pub at-posEr : energyPlaces posEr ≡ (0x343 ∷ 0x101e ∷ []) ∷ (0x1541 ∷ []) ∷ (0x1504 ∷ []) ∷ (0x1506 ∷ []) ∷ []
   pub at-negEa : energyPlaces negEa ≡ (0x335 ∷ 0x1020 ∷ []) ∷ (0x1542 ∷ []) ∷ (0x1508 ∷ []) ∷ (0x150a ∷ []) ∷ []

@@ -68,7 +68,7 @@ pub const S: u16 = 8;
 // S in whole VA, whatever the ratio.
 pub const WHOLE_S: u16 = 9;
 
-// Energies, in the order of the meter's record.
+// Energies, in the paper's order: +Ea, -Ea, +Er, -Er.
 pub const POS_EA: u16 = 0;
 
 pub const NEG_EA: u16 = 1;

@@ -6,8 +6,6 @@ use mathlib.Core.Bool.{Bool, true, false, _&&_, cond}
 use mathlib.Core.List.{List, [], _∷_, _++_}
 use lib.Dec.{leb, ltb, eqb}
 use lib.ListN.{length, getD, take, drop}
-use Rattle.lines.specs.declared.HexPair.{HexPair}
-use Rattle.lines.specs.declared.HexPair.the-variants.{Byte, NoPair}
 use Rattle.lines.specs.declared.Line.{Line}
 use Rattle.lines.specs.declared.Line.the-variants.{Frame, Bad}
 
@@ -31,10 +29,6 @@ pairOk upper lower = ltb (digitOf upper) 16 && ltb (digitOf lower) 16
 -- their byte
 abbrev pub byteOf : ℕ → ℕ → ℕ
 byteOf upper lower = 16 * digitOf upper + digitOf lower
-
--- a hex pair in, its byte out
-abbrev pub pairOf : ℕ → ℕ → HexPair
-pairOf upper lower = cond (pairOk upper lower) (Byte (byteOf upper lower)) NoPair
 
 -- hex pairs, parted by single spaces
 unfoldable pub pairsOk : List ℕ → Bool

@@ -5,18 +5,13 @@ ghost use mathlib.Core.Bool.{true};
 ghost use mathlib.Core.List.{[], _∷_};
 ghost use lib.ListN.{length, take, drop};
 ghost use lib.Seq.{sets};
-ghost use Rattle.lines.specs.Lines.{lineLength, digitOf, pairOk, byteOf, pairOf, bytesOf, lineOk, lineOf, over, frameOver, capital, textOf, textLength, textOver};
+ghost use Rattle.lines.specs.Lines.{lineLength, digitOf, pairOk, byteOf, bytesOf, lineOk, lineOf, over, frameOver, capital, textOf, textLength, textOver};
 
 pub const LINE_FEED: u8 = 0x0A;
 
-pub const SPACE: u8 = 0x20;
+const SPACE: u8 = 0x20;
 
-pub enum HexPair {
-    Byte(u8),
-    NoPair,
-}
-
-// A line: a frame and how many of its bytes had room, or none.
+// A line holds a frame, of which so many bytes had room, or it is no frame.
 pub enum Line {
     Frame(usize),
     Bad,
@@ -34,17 +29,6 @@ pub fn line_end(input: &[u8], from: usize) -> usize
         i += 1;
     }
     i
-}
-
-// The byte of two hex digits, either case.
-pub fn pair(upper: u8, lower: u8) -> HexPair
-    ensures { λ r. ⌜ r ≡ pairOf upper lower ⌝ }
-{
-    if pair_ok(upper, lower) {
-        HexPair::Byte(byte_of(upper, lower))
-    } else {
-        HexPair::NoPair
-    }
 }
 
 // 16 stands for what is no digit, so that one test tells.
@@ -76,7 +60,7 @@ fn byte_of(upper: u8, lower: u8) -> u8
     16 * digit(upper) + digit(lower)
 }
 
-// Puts the frame that a line holds at the start of the buffer, as much of it as there is room for. A bad line changes nothing.
+// Puts the frame that a line holds at the start of the buffer, as much of it as there is room for.
 pub fn frame(line: &[u8], buffer: &mut [u8]) -> Line
     ensures { λ r. ⌜ r ≡ lineOf (now (line .entry)) (length (now (buffer .entry))) ⌝ }
     ensures { λ _. ⌜ now (buffer .exit) ≡ frameOver (now (line .entry)) (now (buffer .entry)) ⌝ }

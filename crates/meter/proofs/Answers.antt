@@ -24,10 +24,10 @@ use Rattle.meter.specs.declared.Answer.the-variants.{Accepted, Refused}
 use Rattle.meter.specs.declared.Answered.{Answered}
 use Rattle.meter.specs.declared.Meter.{Meter}
 use Rattle.meter.specs.Samples.{threeOf, sampleOk, noSample}
-use Rattle.meter.specs.Energies.{energyOk, energiesOk, plusOf, withPower, belowTop}
-use Rattle.meter.specs.Meters.{meterT, setupWithin, meterOk, blankOf, refusedOf, acceptedOf, newOf}
-use Rattle.meter.specs.After.{nextOf, meterBelowTop, afterOf}
-use Rattle.meter.specs.Answers.{NewAnswers, SampleAnswers, StaysWithin, withSetup, SetupIdle}
+use Rattle.meter.specs.Energies.{energyOk, energiesOk, plusOf, withPower, withinTop}
+use Rattle.meter.specs.Meters.{meterT, setupWithin, meterOk, blankOf, refusedOf, acceptedOf, newOf, withSetup}
+use Rattle.meter.specs.After.{nextOf, meterWithinTop, afterOf}
+use Rattle.meter.specs.Answers.{NewAnswers, SampleAnswers, StaysWithin, SetupIdle}
 use Rattle.meter.proofs.Tests.{both, never}
 use Rattle.meter.proofs.Parts.{meter-parts}
 use Rattle.meter.proofs.Cases.{chosen, after-accepted}
@@ -43,9 +43,9 @@ picked true false c m n = refl
 picked false b c m n = refl
 
 module _ (m : Meter) (s : Sample) where
-  answer : afterOf m s .answer ≡ firstOf MeterOutOfLimits SampleOutOfLimits EnergyPastTop (meterOk m) (sampleOk (meterT m) s) (meterBelowTop (nextOf m s))
+  answer : afterOf m s .answer ≡ firstOf MeterOutOfLimits SampleOutOfLimits EnergyPastTop (meterOk m) (sampleOk (meterT m) s) (meterWithinTop (nextOf m s))
   unfolding afterOf
-  answer = picked (meterOk m) (sampleOk (meterT m) s) (meterBelowTop (nextOf m s)) m (nextOf m s)
+  answer = picked (meterOk m) (sampleOk (meterT m) s) (meterWithinTop (nextOf m s)) m (nextOf m s)
 
 -- no two of the reasons are the same, since their numbers are not
 apart : {x y : Refusal} → (refusalNumber x ≡ refusalNumber y → ⊥) → x ≡ y → ⊥
@@ -68,16 +68,16 @@ unchanged false b c m n reason h = refl
 
 refused : (m : Meter) (s : Sample) (reason : Refusal) → afterOf m s .answer ≡ Refused reason → afterOf m s .meter ≡ m
 unfolding afterOf
-refused m s = unchanged (meterOk m) (sampleOk (meterT m) s) (meterBelowTop (nextOf m s)) m (nextOf m s)
+refused m s = unchanged (meterOk m) (sampleOk (meterT m) s) (meterWithinTop (nextOf m s)) m (nextOf m s)
 
-accepted : (m : Meter) (s : Sample) → (afterOf m s .answer ≡ Accepted) ↔ ((meterOk m ≡ true) × (sampleOk (meterT m) s ≡ true) × (meterBelowTop (nextOf m s) ≡ true))
-accepted m s = rw (answer m s) (none-fails _ _ _ (meterOk m) (sampleOk (meterT m) s) (meterBelowTop (nextOf m s)))
+accepted : (m : Meter) (s : Sample) → (afterOf m s .answer ≡ Accepted) ↔ ((meterOk m ≡ true) × (sampleOk (meterT m) s ≡ true) × (meterWithinTop (nextOf m s) ≡ true))
+accepted m s = rw (answer m s) (none-fails _ _ _ (meterOk m) (sampleOk (meterT m) s) (meterWithinTop (nextOf m s)))
 
 pub sample-answers : SampleAnswers
 sample-answers = record {
-  one = λ m s. rw (answer m s) (first-fails _ _ _ one-five one-six five-six (meterOk m) (sampleOk (meterT m) s) (meterBelowTop (nextOf m s)));
-  five = λ m s. rw (answer m s) (second-fails _ _ _ one-five one-six five-six (meterOk m) (sampleOk (meterT m) s) (meterBelowTop (nextOf m s)));
-  six = λ m s. rw (answer m s) (third-fails _ _ _ one-five one-six five-six (meterOk m) (sampleOk (meterT m) s) (meterBelowTop (nextOf m s)));
+  one = λ m s. rw (answer m s) (first-fails _ _ _ one-five one-six five-six (meterOk m) (sampleOk (meterT m) s) (meterWithinTop (nextOf m s)));
+  five = λ m s. rw (answer m s) (second-fails _ _ _ one-five one-six five-six (meterOk m) (sampleOk (meterT m) s) (meterWithinTop (nextOf m s)));
+  six = λ m s. rw (answer m s) (third-fails _ _ _ one-five one-six five-six (meterOk m) (sampleOk (meterT m) s) (meterWithinTop (nextOf m s)));
   accepted = accepted;
   refused = refused;
   counted = λ m s h. let t = accepted m s .0 h in ap (λ (r : Answered). r .meter) (after-accepted m s (t .0) (t .1) (t .2));
@@ -89,14 +89,14 @@ sample-answers = record {
 plus-within : (e : Energy) (x : ℕ) → energyOk (plusOf e x) ≡ leb (plusOf e x .wh .0) topWh
 plus-within e x = rw (le-leb ((e .remainder + x) % 360000) 359999 (omega arith)) (and-true (leb (plusOf e x .wh .0) topWh))
 
-powered-within : (es : Energies) (power : Signed) → energiesOk (withPower es power) ≡ belowTop (withPower es power)
+powered-within : (es : Energies) (power : Signed) → energiesOk (withPower es power) ≡ withinTop (withPower es power)
 powered-within es power = λ i. plus-within (es .positive) (aboveOf power) i && plus-within (es .negative) (belowOf power) i
 
-next-within : (m : Meter) (s : Sample) → meterOk m ≡ true → sampleOk (meterT m) s ≡ true → meterBelowTop (nextOf m s) ≡ true → meterOk (nextOf m s) ≡ true
+next-within : (m : Meter) (s : Sample) → meterOk m ≡ true → sampleOk (meterT m) s ≡ true → meterWithinTop (nextOf m s) ≡ true → meterOk (nextOf m s) ≡ true
 unfolding meterOk
 next-within m s hm hs ht =
     let k = meter-parts m hm in
-    let t = both (belowTop (nextOf m s .active)) (belowTop (nextOf m s .reactive)) ht in
+    let t = both (withinTop (nextOf m s .active)) (withinTop (nextOf m s .reactive)) ht in
     let p = powered-within (m .active) (threeOf (s .p)) ∙ t .0 in
     let q = powered-within (m .reactive) (threeOf (s .q)) ∙ t .1 in
     λ i. le-leb 1 (m .address) (k .address) i && k .ratios i && p i && q i && hs i && k .setup i
@@ -109,7 +109,7 @@ kept false b c m n h k = h
 
 sample : (m : Meter) (s : Sample) → meterOk m ≡ true → meterOk (afterOf m s .meter) ≡ true
 unfolding afterOf
-sample m s h = kept (meterOk m) (sampleOk (meterT m) s) (meterBelowTop (nextOf m s)) m (nextOf m s) h (next-within m s)
+sample m s h = kept (meterOk m) (sampleOk (meterT m) s) (meterWithinTop (nextOf m s)) m (nextOf m s) h (next-within m s)
 
 pub stays-within : StaysWithin
 stays-within = record { sample = sample }
@@ -211,7 +211,7 @@ module _ (m : Meter) (standard output : List ℕ) (s : Sample) where
 
   idle : meterOk m ≡ true → setupWithin other ≡ true → afterOf other s ≡ changed (afterOf m s)
   unfolding afterOf
-  idle hm hs = rw (hm, other-within hm hs) (same (sampleOk (meterT m) s) (meterBelowTop (nextOf m s)) (nextOf m s))
+  idle hm hs = rw (hm, other-within hm hs) (same (sampleOk (meterT m) s) (meterWithinTop (nextOf m s)) (nextOf m s))
 
 pub setup-idle : SetupIdle
 setup-idle = record { sample = idle }

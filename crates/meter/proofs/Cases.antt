@@ -11,7 +11,7 @@ use Rattle.meter.specs.declared.Meter.{Meter}
 use Rattle.meter.specs.declared.Answered.{Answered}
 use Rattle.meter.specs.Samples.{sampleOk}
 use Rattle.meter.specs.Meters.{meterT, meterOk, blankOf, refusedOf, acceptedOf, newOf}
-use Rattle.meter.specs.After.{nextOf, meterBelowTop, afterOf}
+use Rattle.meter.specs.After.{nextOf, meterWithinTop, afterOf}
 
 module _ (address : ℕ) (ratios : Ratios) where
   pub new-3 : ratiosOk ratios ≡ false → newOf address ratios ≡ refusedOf RatioOutOfLimits (blankOf address ratios)
@@ -40,10 +40,10 @@ module _ (m : Meter) (s : Sample) where
   unfolding afterOf
   after-5 h k = rw (h, k) refl
 
-  pub after-6 : meterOk m ≡ true → sampleOk (meterT m) s ≡ true → meterBelowTop (nextOf m s) ≡ false → afterOf m s ≡ refusedOf EnergyPastTop m
+  pub after-6 : meterOk m ≡ true → sampleOk (meterT m) s ≡ true → meterWithinTop (nextOf m s) ≡ false → afterOf m s ≡ refusedOf EnergyPastTop m
   unfolding afterOf
   after-6 h k t = rw (h, k, t) refl
 
-  pub after-accepted : meterOk m ≡ true → sampleOk (meterT m) s ≡ true → meterBelowTop (nextOf m s) ≡ true → afterOf m s ≡ acceptedOf (nextOf m s)
+  pub after-accepted : meterOk m ≡ true → sampleOk (meterT m) s ≡ true → meterWithinTop (nextOf m s) ≡ true → afterOf m s ≡ acceptedOf (nextOf m s)
   unfolding afterOf
   after-accepted h k t = rw (h, k, t) refl

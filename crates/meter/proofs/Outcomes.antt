@@ -5,7 +5,7 @@ use mathlib.Core.Bool.{Bool, true, false}
 use Rattle.refusal.specs.declared.Refusal.{Refusal}
 use Rattle.meter.specs.declared.Answer.{Answer}
 use Rattle.meter.specs.declared.Answer.the-variants.{Accepted, Refused}
-use Rattle.meter.specs.Histories.{isAccepted}
+use Rattle.meter.specs.Carried.{isAccepted}
 use Rattle.meter.proofs.Tests.{never}
 
 abbrev pub firstOf : Refusal → Refusal → Refusal → Bool → Bool → Bool → Answer

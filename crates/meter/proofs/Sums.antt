@@ -9,9 +9,9 @@ use Rattle.meter.specs.declared.samples.Sample.{Sample}
 use Rattle.meter.specs.declared.Meter.{Meter}
 use Rattle.meter.specs.Samples.{sampleOk}
 use Rattle.meter.specs.Energies.{plusOf, valueOf}
-use Rattle.meter.specs.Meters.{meterT, meterOk, blankOf}
-use Rattle.meter.specs.After.{nextOf, meterBelowTop, afterOf}
-use Rattle.meter.specs.Histories.{energyAt, carriesFor, isAccepted, addedBy, EnergyIsSum}
+use Rattle.meter.specs.Meters.{meterT, meterOk, blankOf, energyAt}
+use Rattle.meter.specs.After.{nextOf, meterWithinTop, afterOf}
+use Rattle.meter.specs.Carried.{carriesFor, isAccepted, addedBy, EnergyIsSum}
 use Rattle.meter.proofs.Cases.{chosen}
 use Rattle.meter.proofs.Answers.{new-blank}
 
@@ -36,7 +36,7 @@ picked-adds false b c e m s = omega arith
 
 after-adds : (e : ℕ) (m : Meter) (s : Sample) → valueOf (energyAt e (afterOf m s .meter)) ≡ valueOf (energyAt e m) + addedBy e m s
 unfolding afterOf
-after-adds e m s = picked-adds (meterOk m) (sampleOk (meterT m) s) (meterBelowTop (nextOf m s)) e m s
+after-adds e m s = picked-adds (meterOk m) (sampleOk (meterT m) s) (meterWithinTop (nextOf m s)) e m s
 
 blank-zero : (e a : ℕ) (r : Ratios) → valueOf (energyAt e (blankOf a r)) ≡ 0
 blank-zero zero a r = refl

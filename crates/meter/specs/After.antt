@@ -5,7 +5,7 @@ use Rattle.meter.specs.declared.samples.Sample.{Sample}
 use Rattle.meter.specs.declared.Meter.{Meter}
 use Rattle.meter.specs.declared.Answered.{Answered}
 use Rattle.meter.specs.Samples.{threeOf, sampleOk}
-use Rattle.meter.specs.Energies.{withPower, belowTop}
+use Rattle.meter.specs.Energies.{withPower, withinTop}
 use Rattle.meter.specs.Meters.{meterT, meterOk, refusedOf, acceptedOf}
 
 -- when accepted, it becomes the latest; 3-phase P is added to +Ea or -Ea; likewise Q
@@ -22,15 +22,15 @@ nextOf m s =
     }
 
 -- none of the four energies is past its top
-abbrev pub meterBelowTop : Meter → Bool
-meterBelowTop m = belowTop (m .active) && belowTop (m .reactive)
+abbrev pub meterWithinTop : Meter → Bool
+meterWithinTop m = withinTop (m .active) && withinTop (m .reactive)
 
 -- a sample: 1, then 5, then 6, the meter unchanged; else the next meter
 unfoldable pub afterOf : Meter → Sample → Answered
 afterOf m s =
     cond (meterOk m)
     (cond (sampleOk (meterT m) s)
-    (cond (meterBelowTop (nextOf m s))
+    (cond (meterWithinTop (nextOf m s))
     (acceptedOf (nextOf m s))
     (refusedOf EnergyPastTop m))
     (refusedOf SampleOutOfLimits m))

@@ -12,8 +12,8 @@ use Rattle.meter.specs.declared.samples.Sample.{Sample}
 use Rattle.meter.specs.declared.Answer.the-variants.{Accepted, Refused}
 use Rattle.meter.specs.declared.Meter.{Meter}
 use Rattle.meter.specs.Samples.{sampleOk}
-use Rattle.meter.specs.Meters.{meterT, setupWithin, meterOk, newOf}
-use Rattle.meter.specs.After.{nextOf, meterBelowTop, afterOf}
+use Rattle.meter.specs.Meters.{meterT, setupWithin, meterOk, withSetup, newOf}
+use Rattle.meter.specs.After.{nextOf, meterWithinTop, afterOf}
 
 -- STATEMENT: a new meter is refused with 3 and with 4 exactly when, and accepted exactly when its record is within limits
 pub record NewAnswers : Type 0 where
@@ -25,27 +25,14 @@ pub record NewAnswers : Type 0 where
 pub record SampleAnswers : Type 0 where
   pub one : (m : Meter) (s : Sample) → (afterOf m s .answer ≡ Refused MeterOutOfLimits) ↔ (meterOk m ≡ false)
   pub five : (m : Meter) (s : Sample) → (afterOf m s .answer ≡ Refused SampleOutOfLimits) ↔ ((meterOk m ≡ true) × (sampleOk (meterT m) s ≡ false))
-  pub six : (m : Meter) (s : Sample) → (afterOf m s .answer ≡ Refused EnergyPastTop) ↔ ((meterOk m ≡ true) × (sampleOk (meterT m) s ≡ true) × (meterBelowTop (nextOf m s) ≡ false))
-  pub accepted : (m : Meter) (s : Sample) → (afterOf m s .answer ≡ Accepted) ↔ ((meterOk m ≡ true) × (sampleOk (meterT m) s ≡ true) × (meterBelowTop (nextOf m s) ≡ true))
+  pub six : (m : Meter) (s : Sample) → (afterOf m s .answer ≡ Refused EnergyPastTop) ↔ ((meterOk m ≡ true) × (sampleOk (meterT m) s ≡ true) × (meterWithinTop (nextOf m s) ≡ false))
+  pub accepted : (m : Meter) (s : Sample) → (afterOf m s .answer ≡ Accepted) ↔ ((meterOk m ≡ true) × (sampleOk (meterT m) s ≡ true) × (meterWithinTop (nextOf m s) ≡ true))
   pub refused : (m : Meter) (s : Sample) (reason : Refusal) → afterOf m s .answer ≡ Refused reason → afterOf m s .meter ≡ m
   pub counted : (m : Meter) (s : Sample) → afterOf m s .answer ≡ Accepted → afterOf m s .meter ≡ nextOf m s
 
 -- STATEMENT: a sample keeps a record within limits
 pub record StaysWithin : Type 0 where
   pub sample : (m : Meter) (s : Sample) → meterOk m ≡ true → meterOk (afterOf m s .meter) ≡ true
-
--- a meter with other setup words
-abbrev pub withSetup : Meter → List ℕ → List ℕ → Meter
-withSetup m standard output =
-    record {
-      address = m .address;
-      ratios = m .ratios;
-      active = m .active;
-      reactive = m .reactive;
-      latest = m .latest;
-      standard = standard;
-      output = output;
-    }
 
 -- STATEMENT: setup words are kept and have no effect on a sample: with others in range, answer and measurements are the same
 pub record SetupIdle : Type 0 where

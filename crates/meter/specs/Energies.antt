@@ -31,8 +31,8 @@ abbrev pub withPower : Energies → Signed → Energies
 withPower es power = record { positive = plusOf (es .positive) (aboveOf power); negative = plusOf (es .negative) (belowOf power) }
 
 -- neither energy is past its top
-abbrev pub belowTop : Energies → Bool
-belowTop es = leb (es .positive .wh .0) topWh && leb (es .negative .wh .0) topWh
+abbrev pub withinTop : Energies → Bool
+withinTop es = leb (es .positive .wh .0) topWh && leb (es .negative .wh .0) topWh
 
 -- STATEMENT: zero to neither: an energy within limits with 0 added is itself
 pub record ZeroToNeither : Type 0 where

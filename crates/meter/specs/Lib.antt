@@ -2,6 +2,6 @@ pub mod Samples
 pub mod Energies
 pub mod Meters
 pub mod After
-pub mod Histories
+pub mod Carried
 pub mod Answers
 pub mod Fits

@@ -1,8 +1,9 @@
 -- Paper 01, "The meter's record": the limits of a record, and a new meter.
 use Prim.Native.Nat.{ℕ}
+use mathlib.Core.List.{List, [], _∷_}
 use mathlib.Core.Bool.{Bool, _&&_, cond}
 use lib.Dec.{leb, eqb}
-use lib.ListN.{replicate}
+use lib.ListN.{getD, replicate}
 use Rattle.refusal.specs.declared.Refusal.{Refusal}
 use Rattle.refusal.specs.declared.Refusal.the-variants.{RatioOutOfLimits, OwnAddressZero}
 use Rattle.ratio.specs.declared.Ratios.{Ratios}
@@ -54,6 +55,27 @@ blankOf address ratios =
       latest = noSample;
       standard = replicate 16 0;
       output = replicate 24 0;
+    }
+
+-- the four energies, in the paper's order: +Ea, -Ea, +Er, -Er
+abbrev pub energiesOf : Meter → List Energy
+energiesOf m = m .active .positive ∷ m .active .negative ∷ m .reactive .positive ∷ m .reactive .negative ∷ []
+
+-- the one of a number
+abbrev pub energyAt : ℕ → Meter → Energy
+energyAt e m = getD (energiesOf m) e noEnergy
+
+-- a meter with other setup words
+abbrev pub withSetup : Meter → List ℕ → List ℕ → Meter
+withSetup m standard output =
+    record {
+      address = m .address;
+      ratios = m .ratios;
+      active = m .active;
+      reactive = m .reactive;
+      latest = m .latest;
+      standard = standard;
+      output = output;
     }
 
 -- a refusal returns its number; every record is as before

@@ -3,7 +3,7 @@ ghost use mathlib.Core.Path.{_≡_};
 ghost use Prim.Native.Nat.{_≤_};
 ghost use Rattle.ratio.specs.Energies.{topWh};
 ghost use Rattle.meter.specs.Fits.{Room};
-ghost use Rattle.meter.specs.Energies.{energyOk, plusOf, energiesOk, belowTop, withPower};
+ghost use Rattle.meter.specs.Energies.{energyOk, plusOf, energiesOk, withinTop, withPower};
 use crate::Meter;
 use ratio::WattHours;
 use signed::Signed;
@@ -47,8 +47,8 @@ impl Energies {
         self.positive.within() & self.negative.within()
     }
 
-    pub(crate) fn below_top(self) -> bool
-        ensures { λ r. ⌜ r ≡ belowTop self ⌝ }
+    pub(crate) fn within_top(self) -> bool
+        ensures { λ r. ⌜ r ≡ withinTop self ⌝ }
     {
         (self.positive.wh.0 <= Meter::WH_TOP) & (self.negative.wh.0 <= Meter::WH_TOP)
     }

@@ -6,7 +6,7 @@ ghost use mathlib.Core.Path.{_≡_};
 ghost use mathlib.Core.Bool.{true};
 ghost use Rattle.meter.specs.Samples.{sampleOk};
 ghost use Rattle.meter.specs.Meters.{meterT, meterOk, setupWithin, blankOf, refusedOf, newOf};
-ghost use Rattle.meter.specs.After.{nextOf, meterBelowTop, afterOf};
+ghost use Rattle.meter.specs.After.{nextOf, meterWithinTop, afterOf};
 use energies::Energies;
 use energies::Energy;
 use ratio::Ratios;
@@ -131,7 +131,7 @@ impl Meter {
             return self.refused(Refusal::SampleOutOfLimits);
         }
         let next = self.counted(sample);
-        if !next.below_top() {
+        if !next.within_top() {
             return self.refused(Refusal::EnergyPastTop);
         }
         Answered {
@@ -152,9 +152,9 @@ impl Meter {
         next
     }
 
-    fn below_top(self) -> bool
-        ensures { λ r. ⌜ r ≡ meterBelowTop self ⌝ }
+    fn within_top(self) -> bool
+        ensures { λ r. ⌜ r ≡ meterWithinTop self ⌝ }
     {
-        self.active.below_top() & self.reactive.below_top()
+        self.active.within_top() & self.reactive.within_top()
     }
 }

@@ -12,7 +12,7 @@ use Rattle.crc.specs.Crc.{intact}
 use Rattle.directory.specs.declared.Item.{Item}
 use Rattle.directory.specs.declared.Span.the-variants.{Error}
 use Rattle.directory.specs.Run.{runIn}
-use Rattle.modbus.specs.Frame.{addressOf, functionOf, startOf, numberOf, bytesOf, silence, writeShaped}
+use Rattle.modbus.specs.Frame.{addressOf, functionOf, startOf, wordNumber, byteNumber, silence, writeShaped}
 use Rattle.modbus.specs.Read.{numberWrong, readIn}
 
 -- any of four tests, whichever is found true first
@@ -85,19 +85,19 @@ module _ (own : ℕ) (frame : List ℕ) where
   unfolding writeShaped
   shape-short h = rw (lt-ltb (length frame) 9 h) refl
 
-  pub shape-long : 9 ≤ length frame → (not (eqb (numberOf frame) 0) && eqb (bytesOf frame) (2 * numberOf frame) && eqb (length frame) (9 + bytesOf frame)) ≡ writeShaped frame
+  pub shape-long : 9 ≤ length frame → (not (eqb (wordNumber frame) 0) && eqb (byteNumber frame) (2 * wordNumber frame) && eqb (length frame) (9 + byteNumber frame)) ≡ writeShaped frame
   unfolding writeShaped
   shape-long h = rw (le-ltb (length frame) 9 h) refl
 
   -- a write that is shaped has its fields, and a byte number that tells its length
-  pub shaped-length : writeShaped frame ≡ true → (9 ≤ length frame) × (length frame ≡ 9 + 2 * numberOf frame)
+  pub shaped-length : writeShaped frame ≡ true → (9 ≤ length frame) × (length frame ≡ 9 + 2 * wordNumber frame)
   unfolding writeShaped
   shaped-length h =
       let t = and-eq-true-iff (not (ltb (length frame) 9)) _ .0 h in
-      let u = and-eq-true-iff _ (eqb (length frame) (9 + bytesOf frame)) .0 (t .1) in
-      let v = and-eq-true-iff (not (eqb (numberOf frame) 0)) (eqb (bytesOf frame) (2 * numberOf frame)) .0 (u .0) in
-      let bytes : bytesOf frame ≡ 2 * numberOf frame = eqb-true _ _ (v .1) in
-      let long : length frame ≡ 9 + bytesOf frame = eqb-true _ _ (u .1) in
+      let u = and-eq-true-iff _ (eqb (length frame) (9 + byteNumber frame)) .0 (t .1) in
+      let v = and-eq-true-iff (not (eqb (wordNumber frame) 0)) (eqb (byteNumber frame) (2 * wordNumber frame)) .0 (u .0) in
+      let bytes : byteNumber frame ≡ 2 * wordNumber frame = eqb-true _ _ (v .1) in
+      let long : length frame ≡ 9 + byteNumber frame = eqb-true _ _ (u .1) in
       (ltb-false (length frame) 9 (not-true _ (t .0)), omega arith)
 
 -- a read, test by test
@@ -106,10 +106,10 @@ module _ (dir : List Item) (frame : List ℕ) where
   unfolding readIn
   read-length h = rw h refl
 
-  pub read-number : eqb (length frame) 8 ≡ true → numberWrong (numberOf frame) ≡ true → Error Data ≡ readIn dir frame
+  pub read-number : eqb (length frame) 8 ≡ true → numberWrong (wordNumber frame) ≡ true → Error Data ≡ readIn dir frame
   unfolding readIn
   read-number h k = rw (h, k) refl
 
-  pub read-run : eqb (length frame) 8 ≡ true → numberWrong (numberOf frame) ≡ false → runIn dir (startOf frame) (numberOf frame) ≡ readIn dir frame
+  pub read-run : eqb (length frame) 8 ≡ true → numberWrong (wordNumber frame) ≡ false → runIn dir (startOf frame) (wordNumber frame) ≡ readIn dir frame
   unfolding readIn
   read-run h k = rw (h, k) refl

@@ -14,7 +14,7 @@ use Rattle.directory.specs.declared.Span.{Span}
 use Rattle.directory.specs.declared.Span.the-variants.{Items, Error}
 use Rattle.directory.specs.Run.{runIn}
 use Rattle.directory.proofs.Errors.{run-sound}
-use Rattle.modbus.specs.Frame.{startOf, numberOf}
+use Rattle.modbus.specs.Frame.{startOf, wordNumber}
 use Rattle.modbus.specs.Read.{numberWrong, readIn, ReadWhen}
 use Rattle.modbus.proofs.Frames.{neither}
 
@@ -53,10 +53,10 @@ module _ (dir : List Item) (frame : List ℕ) where
   t = eqb (length frame) 8
 
   abbrev w : Bool
-  w = numberWrong (numberOf frame)
+  w = numberWrong (wordNumber frame)
 
   abbrev run : Span
-  run = runIn dir (startOf frame) (numberOf frame)
+  run = runIn dir (startOf frame) (wordNumber frame)
 
   is-judged : readIn dir frame ≡ judged t w run
   unfolding readIn
@@ -84,17 +84,17 @@ read-when =
       error-02 = λ dir frame. ran dir frame (Error Address) (λ e. data-address e);
       error-03 = wrong-data;
       items = λ dir frame first count. ran dir frame (Items first count) (λ e. no-data e);
-      never = λ dir frame h. run-sound dir (startOf frame) (numberOf frame) (ran dir frame (Error Function) (λ e. data-function e) .0 h .2);
+      never = λ dir frame h. run-sound dir (startOf frame) (wordNumber frame) (ran dir frame (Error Function) (λ e. data-function e) .0 h .2);
     }
 
 -- a read that is answered with data: its length, the most words it asks for, and its run
 pub record Asks (dir : List Item) (frame : List ℕ) (first count : ℕ) : Type 0 where
   pub long : length frame ≡ 8
-  pub most : numberOf frame ≤ 120
-  pub run : runIn dir (startOf frame) (numberOf frame) ≡ Items first count
+  pub most : wordNumber frame ≤ 120
+  pub run : runIn dir (startOf frame) (wordNumber frame) ≡ Items first count
 
 pub asks : (dir : List Item) (frame : List ℕ) (first count : ℕ) → readIn dir frame ≡ Items first count → Asks dir frame first count
 asks dir frame first count e =
     let t = read-when .items dir frame first count .0 e in
-    let n = neither (ltb (numberOf frame) 1) (ltb 120 (numberOf frame)) (t .1) in
-    record { long = t .0; most = ltb-false 120 (numberOf frame) (n .1); run = t .2 }
+    let n = neither (ltb (wordNumber frame) 1) (ltb 120 (wordNumber frame)) (t .1) in
+    record { long = t .0; most = ltb-false 120 (wordNumber frame) (n .1); run = t .2 }

@@ -29,12 +29,12 @@ abbrev pub startOf : List ℕ → ℕ
 startOf frame = wordAt frame 2
 
 -- the word number
-abbrev pub numberOf : List ℕ → ℕ
-numberOf frame = wordAt frame 4
+abbrev pub wordNumber : List ℕ → ℕ
+wordNumber frame = wordAt frame 4
 
 -- of a write: the byte number
-abbrev pub bytesOf : List ℕ → ℕ
-bytesOf frame = getD frame 6 0
+abbrev pub byteNumber : List ℕ → ℕ
+byteNumber frame = getD frame 6 0
 
 -- n words that stand from a place on
 unfoldable pub wordsAt : ℕ → List ℕ → ℕ → List ℕ
@@ -43,7 +43,7 @@ wordsAt (suc n) l at = wordAt l at ∷ wordsAt n l (at + 2)
 
 -- of a write: the values, behind the byte number
 abbrev pub valuesOf : List ℕ → List ℕ
-valuesOf frame = wordsAt (numberOf frame) frame 7
+valuesOf frame = wordsAt (wordNumber frame) frame 7
 
 -- 2. Silence: fewer than 4 or more than 256 bytes; wrong CRC; address neither 0 nor own; function 0x80 or above
 unfoldable pub silence : ℕ → List ℕ → Bool
@@ -57,6 +57,6 @@ silence own frame =
 unfoldable pub writeShaped : List ℕ → Bool
 writeShaped frame =
     not (ltb (length frame) 9) &&
-    (not (eqb (numberOf frame) 0) &&
-    eqb (bytesOf frame) (2 * numberOf frame) &&
-    eqb (length frame) (9 + bytesOf frame))
+    (not (eqb (wordNumber frame) 0) &&
+    eqb (byteNumber frame) (2 * wordNumber frame) &&
+    eqb (length frame) (9 + byteNumber frame))

@@ -5,7 +5,7 @@ use lib.ListN.{take}
 use Rattle.refusal.specs.declared.ErrorCode.{ErrorCode}
 use Rattle.refusal.specs.Numbers.{errorNumber}
 use Rattle.crc.specs.Crc.{sealed}
-use Rattle.modbus.specs.Frame.{addressOf, functionOf, numberOf}
+use Rattle.modbus.specs.Frame.{addressOf, functionOf, wordNumber}
 
 -- an error reply is address, function + 0x80, code, CRC
 abbrev pub errorReply : List ℕ → ErrorCode → List ℕ
@@ -17,4 +17,4 @@ echoReply frame = sealed (take 6 frame)
 
 -- data: address, function, byte number, the words
 abbrev pub dataReply : List ℕ → List ℕ → List ℕ
-dataReply frame words = sealed (addressOf frame ∷ functionOf frame ∷ 2 * numberOf frame ∷ words)
+dataReply frame words = sealed (addressOf frame ∷ functionOf frame ∷ 2 * wordNumber frame ∷ words)

@@ -27,14 +27,24 @@ pub const FRAME_LEAST: usize = 4;
 
 pub const FRAME_MOST: usize = 256;
 
-pub const READ_LENGTH: usize = 8;
+// Where the fields of a read or a write stand, behind address and function.
+pub const START: usize = 2;
 
-pub const WORDS_MOST: u16 = 120;
+pub const WORD_NUMBER: usize = 4;
+
+const BYTE_NUMBER: usize = 6;
+
+// Of a data reply: the bytes before its words, address, function and byte number.
+pub const DATA_HEAD: usize = 3;
+
+const READ_LENGTH: usize = 8;
+
+const WORDS_MOST: u16 = 120;
 
 // Of a write: the bytes before its values, and all but its values.
-pub const WRITE_HEAD: usize = 7;
+const WRITE_HEAD: usize = 7;
 
-pub const WRITE_FRAME: usize = 9;
+const WRITE_FRAME: usize = 9;
 
 pub enum Verdict {
     Good,
@@ -68,11 +78,11 @@ pub fn read_in(t: &[u16], n: usize, frame: &[u8]) -> Span
     if frame.len() != READ_LENGTH {
         return Span::Error(ErrorCode::Data);
     }
-    let words = words::word_at(frame, 4);
+    let words = words::word_at(frame, WORD_NUMBER);
     if (words < 1) | (WORDS_MOST < words) {
         return Span::Error(ErrorCode::Data);
     }
-    directory::run_in(t, n, words::word_at(frame, 2), words)
+    directory::run_in(t, n, words::word_at(frame, START), words)
 }
 
 // Whether a write has the words and bytes that it says.
@@ -83,8 +93,8 @@ pub fn write_shaped(frame: &[u8]) -> bool
     if n < WRITE_FRAME {
         return false;
     }
-    let words = words::word_at(frame, 4) as usize;
-    let bytes = frame[6] as usize;
+    let words = words::word_at(frame, WORD_NUMBER) as usize;
+    let bytes = frame[BYTE_NUMBER] as usize;
     (words != 0) & (bytes == 2 * words) & (n == WRITE_FRAME + bytes)
 }
 

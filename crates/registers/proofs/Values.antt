@@ -16,8 +16,7 @@ use Rattle.ratio.specs.Energies.{topWh, registerOf, wrapOf, lowOf, highOf}
 use Rattle.meter.specs.declared.energies.Energy.{Energy}
 use Rattle.meter.specs.declared.Meter.{Meter}
 use Rattle.meter.specs.Energies.{energyOk}
-use Rattle.meter.specs.Meters.{meterT, meterOk}
-use Rattle.meter.specs.Histories.{energiesOf, energyAt}
+use Rattle.meter.specs.Meters.{meterT, meterOk, energiesOf, energyAt}
 use Rattle.meter.proofs.Tests.{both}
 use Rattle.meter.proofs.Parts.{meter-parts, sample-parts, phases-most, powers-phases, powers-sum, energy-top}
 use Rattle.registers.specs.Shown.{powersOf, powerAt, powerValues, signedValues, signValues, countValues, lowValues, highValues, wrapValues, plainValues, valuesOf, shownOf}

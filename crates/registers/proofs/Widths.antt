@@ -18,9 +18,7 @@ use Rattle.directory.specs.Item.{none}
 use Rattle.directory.proofs.Rules.{directory-rules}
 use Rattle.meter.specs.declared.Meter.{Meter}
 use Rattle.meter.specs.Samples.{factorOf}
-use Rattle.meter.specs.Meters.{meterT, meterOk}
-use Rattle.meter.specs.Histories.{energyAt}
-use Rattle.meter.specs.Answers.{withSetup}
+use Rattle.meter.specs.Meters.{meterT, meterOk, withSetup, energyAt}
 use Rattle.meter.proofs.Tests.{both}
 use Rattle.meter.proofs.Parts.{SampleParts, sample-parts, meter-parts}
 use Rattle.registers.specs.Shown.{powerAt, powerValues, signedValues, signValues, countValues, lowValues, highValues, wrapValues, factorValues, plainValues, valuesOf, shownOf}

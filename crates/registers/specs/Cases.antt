@@ -9,8 +9,7 @@ use Rattle.directory.specs.Quantity.{widthOf}
 use Rattle.directory.specs.Order.{roomOf}
 use Rattle.directory.specs.Table.{directory}
 use Rattle.meter.specs.declared.Meter.{Meter}
-use Rattle.meter.specs.Meters.{meterOk}
-use Rattle.meter.specs.Answers.{withSetup}
+use Rattle.meter.specs.Meters.{meterOk, withSetup}
 use Rattle.registers.specs.Shown.{valuesOf, shownOf}
 
 -- a record as a program holds it: its arrays have the lengths of their types, and its numbers their widths

@@ -12,8 +12,7 @@ use Rattle.meter.specs.declared.energies.Energy.{Energy}
 use Rattle.meter.specs.declared.samples.Sample.{Sample}
 use Rattle.meter.specs.declared.Meter.{Meter}
 use Rattle.meter.specs.Samples.{threeOf, factorOf}
-use Rattle.meter.specs.Meters.{meterT}
-use Rattle.meter.specs.Histories.{energiesOf}
+use Rattle.meter.specs.Meters.{meterT, energiesOf}
 
 -- the signed powers: 3-phase P and Q, then P and Q phase by phase
 abbrev pub powersOf : Sample → List Signed

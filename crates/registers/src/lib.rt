@@ -7,8 +7,7 @@ ghost use Prim.Native.Nat.{_≤_};
 ghost use lib.ListN.{getD};
 ghost use Rattle.ratio.specs.Powers.{signWord};
 ghost use Rattle.meter.specs.Samples.{factorOf};
-ghost use Rattle.meter.specs.Meters.{meterOk};
-ghost use Rattle.meter.specs.Histories.{energyAt};
+ghost use Rattle.meter.specs.Meters.{meterOk, energyAt};
 ghost use Rattle.registers.specs.Shown.{powerAt, powerValues, signedValues, signValues, countValues, lowValues, highValues, wrapValues, factorValues, plainValues, shownOf};
 use directory::quantity::*;
 use meter::Meter;
@@ -74,7 +73,7 @@ fn power(m: Meter, which: u16) -> u32
         S => ratio::power_register(t, m.latest.s) as u32,
         WHOLE_S => (m.latest.s / 100) as u32,
         _ => {
-            let p = signed_at(m, which);
+            let p = power_at(m, which);
             ratio::power_register(t, p.magnitude) as u32
         }
     }
@@ -85,7 +84,7 @@ fn signed_power(m: Meter, which: u16) -> u32
     requires { ⌜ meterOk m ≡ true ⌝ }
     ensures { λ r. ⌜ r ≡ getD (signedValues m) which 0 ⌝ }
 {
-    let p = signed_at(m, which);
+    let p = power_at(m, which);
     words::twos_long(p.negative, (p.magnitude / 100) as u32)
 }
 
@@ -93,7 +92,7 @@ fn sign(m: Meter, which: u16) -> u32
     requires { ⌜ meterOk m ≡ true ⌝ }
     ensures { λ r. ⌜ r ≡ getD (signValues m) which 0 ⌝ }
 {
-    sign_word(signed_at(m, which))
+    sign_word(power_at(m, which))
 }
 
 // The sign of the power itself, also where its whole units are 0.
@@ -104,7 +103,7 @@ fn sign_word(power: Signed) -> u32
 }
 
 // The signed powers of the latest sample.
-fn signed_at(m: Meter, which: u16) -> Signed
+fn power_at(m: Meter, which: u16) -> Signed
     requires { ⌜ meterOk m ≡ true ⌝ }
     ensures { λ r. ⌜ r ≡ powerAt (m .latest) which ⌝ }
 {

@@ -1,5 +1,5 @@
-// A signed number as its magnitude and whether it is negative: every floor above goes by these two, and only this one
-// looks at the number itself.
+// A signed number as its magnitude and whether it is negative: every floor above goes by these two; only the 3-phase
+// sum adds the numbers themselves.
 ghost use mathlib.Core.Path.{_≡_};
 ghost use Rattle.signed.specs.Signs.{signedOf, aboveOf, belowOf};
 

@@ -7,9 +7,9 @@ use borrow.Author.Tests.{eq-eqb, ne-eqb, eqb-true}
 use Rattle.refusal.specs.declared.ErrorCode.the-variants.{Address, Data}
 use Rattle.setup.specs.Ranges.{groupOk}
 use Rattle.modbus.specs.declared.Verdict.the-variants.{Good}
-use Rattle.modbus.specs.Frame.{startOf, numberOf, valuesOf, writeShaped}
+use Rattle.modbus.specs.Frame.{startOf, wordNumber, valuesOf, writeShaped}
 use Rattle.meter.specs.declared.Meter.{Meter}
-use Rattle.meter.specs.Answers.{withSetup}
+use Rattle.meter.specs.Meters.{withSetup}
 use Rattle.store.specs.Writes.{toStandard, toOutput, wrongOf, writtenOf}
 
 module _ (m : Meter) (frame : List ℕ) where
@@ -26,31 +26,31 @@ module _ (m : Meter) (frame : List ℕ) where
     group-at : {b : Bool} → groupOk 0x2000 (valuesOf frame) ≡ b → groupOk (startOf frame) (valuesOf frame) ≡ b
     group-at g = ap (λ (a : ℕ). groupOk a (valuesOf frame)) (eqb-true _ _ s) ∙ g
 
-    pub not-16 : (numberOf frame ≡ 16 → ⊥) → wrongOf m Data ≡ writtenOf m frame
+    pub not-16 : (wordNumber frame ≡ 16 → ⊥) → wrongOf m Data ≡ writtenOf m frame
     unfolding writtenOf
-    not-16 n = rw (h, s, ne-eqb (numberOf frame) 16 n) refl
+    not-16 n = rw (h, s, ne-eqb (wordNumber frame) 16 n) refl
 
-    pub bad-16 : numberOf frame ≡ 16 → groupOk 0x2000 (valuesOf frame) ≡ false → wrongOf m Data ≡ writtenOf m frame
+    pub bad-16 : wordNumber frame ≡ 16 → groupOk 0x2000 (valuesOf frame) ≡ false → wrongOf m Data ≡ writtenOf m frame
     unfolding writtenOf
-    bad-16 n g = rw (h, s, eq-eqb (numberOf frame) 16 n, group-at g) refl
+    bad-16 n g = rw (h, s, eq-eqb (wordNumber frame) 16 n, group-at g) refl
 
-    pub good-16 : numberOf frame ≡ 16 → groupOk 0x2000 (valuesOf frame) ≡ true → record { verdict = Good; meter = withSetup m (valuesOf frame) (m .output) } ≡ writtenOf m frame
+    pub good-16 : wordNumber frame ≡ 16 → groupOk 0x2000 (valuesOf frame) ≡ true → record { verdict = Good; meter = withSetup m (valuesOf frame) (m .output) } ≡ writtenOf m frame
     unfolding writtenOf
-    good-16 n g = rw (h, s, eq-eqb (numberOf frame) 16 n, group-at g) refl
+    good-16 n g = rw (h, s, eq-eqb (wordNumber frame) 16 n, group-at g) refl
 
   -- to 0x2200
   module _ (h : writeShaped frame ≡ true) (s : toStandard frame ≡ false) (o : toOutput frame ≡ true) where
     output-at : {b : Bool} → groupOk 0x2200 (valuesOf frame) ≡ b → groupOk (startOf frame) (valuesOf frame) ≡ b
     output-at g = ap (λ (a : ℕ). groupOk a (valuesOf frame)) (eqb-true _ _ o) ∙ g
 
-    pub not-24 : (numberOf frame ≡ 24 → ⊥) → wrongOf m Data ≡ writtenOf m frame
+    pub not-24 : (wordNumber frame ≡ 24 → ⊥) → wrongOf m Data ≡ writtenOf m frame
     unfolding writtenOf
-    not-24 n = rw (h, s, o, ne-eqb (numberOf frame) 24 n) refl
+    not-24 n = rw (h, s, o, ne-eqb (wordNumber frame) 24 n) refl
 
-    pub bad-24 : numberOf frame ≡ 24 → groupOk 0x2200 (valuesOf frame) ≡ false → wrongOf m Data ≡ writtenOf m frame
+    pub bad-24 : wordNumber frame ≡ 24 → groupOk 0x2200 (valuesOf frame) ≡ false → wrongOf m Data ≡ writtenOf m frame
     unfolding writtenOf
-    bad-24 n g = rw (h, s, o, eq-eqb (numberOf frame) 24 n, output-at g) refl
+    bad-24 n g = rw (h, s, o, eq-eqb (wordNumber frame) 24 n, output-at g) refl
 
-    pub good-24 : numberOf frame ≡ 24 → groupOk 0x2200 (valuesOf frame) ≡ true → record { verdict = Good; meter = withSetup m (m .standard) (valuesOf frame) } ≡ writtenOf m frame
+    pub good-24 : wordNumber frame ≡ 24 → groupOk 0x2200 (valuesOf frame) ≡ true → record { verdict = Good; meter = withSetup m (m .standard) (valuesOf frame) } ≡ writtenOf m frame
     unfolding writtenOf
-    good-24 n g = rw (h, s, o, eq-eqb (numberOf frame) 24 n, output-at g) refl
+    good-24 n g = rw (h, s, o, eq-eqb (wordNumber frame) 24 n, output-at g) refl

@@ -12,10 +12,9 @@ use Rattle.refusal.specs.declared.ErrorCode.the-variants.{Function, Address, Da
 use Rattle.setup.specs.Ranges.{groupOk}
 use Rattle.modbus.specs.declared.Verdict.{Verdict}
 use Rattle.modbus.specs.declared.Verdict.the-variants.{Good, Wrong}
-use Rattle.modbus.specs.Frame.{startOf, numberOf, valuesOf, writeShaped}
+use Rattle.modbus.specs.Frame.{startOf, wordNumber, valuesOf, writeShaped}
 use Rattle.meter.specs.declared.Meter.{Meter}
-use Rattle.meter.specs.Meters.{meterOk}
-use Rattle.meter.specs.Answers.{withSetup}
+use Rattle.meter.specs.Meters.{meterOk, withSetup}
 use Rattle.meter.proofs.Parts.{meter-parts}
 use Rattle.meter.proofs.Answers.{other-within}
 use Rattle.store.specs.declared.Written.{Written}
@@ -114,7 +113,7 @@ module _ (m k : Meter) where
 module _ (m : Meter) (frame : List ℕ) where
   is-judged : writtenOf m frame ≡ by-three m (storedOf m frame) (writeShaped frame) (toGroup frame) (fits frame)
   unfolding writtenOf
-  is-judged = three m (storedOf m frame) (writeShaped frame) (toStandard frame) (toOutput frame) (eqb (numberOf frame) (groupWords frame)) (groupOk (startOf frame) (valuesOf frame))
+  is-judged = three m (storedOf m frame) (writeShaped frame) (toStandard frame) (toOutput frame) (eqb (wordNumber frame) (groupWords frame)) (groupOk (startOf frame) (valuesOf frame))
 
 pub write-when : WriteWhen
 write-when =
@@ -133,7 +132,7 @@ module _ (m : Meter) (frame : List ℕ) (hm : meterOk m ≡ true) (t : toGroup f
   -- the values are in the range of the group that they go to
   ranged : (address : ℕ) → eqb (startOf frame) address ≡ true → groupOk address (valuesOf frame) ≡ true
   ranged address s =
-      let in-range = and-eq-true-iff (eqb (numberOf frame) (groupWords frame)) _ .0 f .1 in
+      let in-range = and-eq-true-iff (eqb (wordNumber frame) (groupWords frame)) _ .0 f .1 in
       ap (λ (a : ℕ). groupOk a (valuesOf frame)) (sym (eqb-true _ _ s)) ∙ in-range
 
   groups : (groupOk 0x2000 (m .standard) ≡ true) × (groupOk 0x2200 (m .output) ≡ true)

@@ -10,11 +10,10 @@ use Rattle.refusal.specs.declared.ErrorCode.the-variants.{Function, Address, Da
 use Rattle.setup.specs.Ranges.{groupOk}
 use Rattle.modbus.specs.declared.Verdict.{Verdict}
 use Rattle.modbus.specs.declared.Verdict.the-variants.{Good, Wrong}
-use Rattle.modbus.specs.Frame.{startOf, numberOf, valuesOf, writeShaped}
+use Rattle.modbus.specs.Frame.{startOf, wordNumber, valuesOf, writeShaped}
 use Rattle.modbus.specs.Replies.{errorReply, echoReply}
 use Rattle.meter.specs.declared.Meter.{Meter}
-use Rattle.meter.specs.Meters.{meterOk}
-use Rattle.meter.specs.Answers.{withSetup}
+use Rattle.meter.specs.Meters.{meterOk, withSetup}
 use Rattle.store.specs.declared.Written.{Written}
 
 -- the group of 16 words (0x2000)
@@ -48,7 +47,7 @@ writtenOf m frame =
     -- start neither 0x2000 nor 0x2200: error 02
     (cond (not (toStandard frame) && not (toOutput frame)) (wrongOf m Address)
     -- word number not 16, or 24, for that group: error 03
-    (cond (not (eqb (numberOf frame) (groupWords frame))) (wrongOf m Data)
+    (cond (not (eqb (wordNumber frame) (groupWords frame))) (wrongOf m Data)
     -- a value out of range: error 03
     (cond (not (groupOk (startOf frame) (valuesOf frame))) (wrongOf m Data)
     -- else the group is stored
@@ -65,7 +64,7 @@ toGroup frame = toStandard frame || toOutput frame
 
 -- its words are that group's, and each value is in range
 abbrev pub fits : List ℕ → Bool
-fits frame = eqb (numberOf frame) (groupWords frame) && groupOk (startOf frame) (valuesOf frame)
+fits frame = eqb (wordNumber frame) (groupWords frame) && groupOk (startOf frame) (valuesOf frame)
 
 -- STATEMENT: of a write, error 02 and error 03 are due exactly when, and it is stored exactly when neither is; error 01 never is
 pub record WriteWhen : Type 0 where

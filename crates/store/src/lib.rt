@@ -2,7 +2,7 @@
 ghost use mathlib.Core.Path.{_≡_};
 ghost use mathlib.Core.Bool.{true, false};
 ghost use Rattle.modbus.specs.Frame.{writeShaped};
-ghost use Rattle.meter.specs.Answers.{withSetup};
+ghost use Rattle.meter.specs.Meters.{withSetup};
 ghost use Rattle.store.specs.Writes.{toStandard, toOutput, writtenOf, wrongOf};
 use meter::Meter;
 use modbus::Verdict;
@@ -21,7 +21,7 @@ pub fn write(m: Meter, frame: &[u8]) -> Written
     if !modbus::write_shaped(frame) {
         return wrong(m, ErrorCode::Data);
     }
-    match words::word_at(frame, 2) {
+    match words::word_at(frame, modbus::START) {
         0x2000 => standard(m, frame),
         0x2200 => output(m, frame),
         _ => wrong(m, ErrorCode::Address),
@@ -43,7 +43,7 @@ fn standard(m: Meter, frame: &[u8]) -> Written
     ensures { λ r. ⌜ r ≡ writtenOf m (now (frame .entry)) ⌝ }
 {
     let mut group = [0u16; 16];
-    if words::word_at(frame, 4) != 16 {
+    if words::word_at(frame, modbus::WORD_NUMBER) != 16 {
         return wrong(m, ErrorCode::Data);
     }
     modbus::values(frame, &mut group);
@@ -70,7 +70,7 @@ fn output(m: Meter, frame: &[u8]) -> Written
     ensures { λ r. ⌜ r ≡ writtenOf m (now (frame .entry)) ⌝ }
 {
     let mut group = [0u16; 24];
-    if words::word_at(frame, 4) != 24 {
+    if words::word_at(frame, modbus::WORD_NUMBER) != 24 {
         return wrong(m, ErrorCode::Data);
     }
     modbus::values(frame, &mut group);

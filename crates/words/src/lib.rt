@@ -7,7 +7,7 @@ ghost use lib.Seq.{sets};
 ghost use Rattle.words.specs.Words.{word, sent, wordAt, valueAt};
 ghost use Rattle.words.specs.Signed.{twos};
 
-pub fn put_word(buf: &mut [u8], at: usize, w: u16)
+fn put_word(buf: &mut [u8], at: usize, w: u16)
     requires { ⌜ at + 2 ≤ length (now buf) ⌝ }
     ensures { λ _. ⌜ now (buf .exit) ≡ sets (now (buf .entry)) at (word w) ⌝ }
 {

@@ -12,7 +12,7 @@ use Rattle.directory.specs.Table.{directory}
 use Rattle.directory.specs.Run.{runItems}
 use Rattle.directory.proofs.Rules.{directory-ruled}
 use Rattle.directory.proofs.Sends.{run-sends}
-use Rattle.modbus.specs.Frame.{startOf, numberOf}
+use Rattle.modbus.specs.Frame.{startOf, wordNumber}
 use Rattle.modbus.proofs.Frames.{neither}
 use Rattle.modbus.proofs.Judged.{Asks, asks}
 use Rattle.collector.proofs.Judged.{length-refused, crc-refused, foreign-refused, error-given, misfit-refused, item-given, misfit-read, fitting}
@@ -97,8 +97,8 @@ item-requires c κs =
     let a = s .args in
     let q = asked s in
     let fits = fitting (a .request .now) (a .reply .now) (misfit-read (a .request .now) (a .reply .now) _ false (c .before .word-at .ensures) (c .if5 .left)) in
-    let sends = run-sends .sends directory (startOf (a .request .now)) (numberOf (a .request .now)) (a .first) (a .count) directory-ruled (q .run) in
-    (s .pre .0, (run-sends .inside directory (startOf (a .request .now)) (numberOf (a .request .now)) (a .first) (a .count) directory-ruled (q .run), omega (arith, fits, sends)))
+    let sends = run-sends .sends directory (startOf (a .request .now)) (wordNumber (a .request .now)) (a .first) (a .count) directory-ruled (q .run) in
+    (s .pre .0, (run-sends .inside directory (startOf (a .request .now)) (wordNumber (a .request .now)) (a .first) (a .count) directory-ruled (q .run), omega (arith, fits, sends)))
 
 returns-6 : tie.Need-returns-6
 returns-6 c =

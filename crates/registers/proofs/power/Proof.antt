@@ -28,8 +28,8 @@ cast-result-2 c =
     let most = sample-parts (meterT (s .args .m)) (s .args .m .latest) (meter-parts (s .args .m) (s .pre) .latest) .apparent in
     record { fits = omega (arith, powers-fit .signed (meterT (s .args .m)) (s .args .m .latest .s) most) }
 
-signed-at-requires : tie.Need-signed-at-requires
-signed-at-requires c κs = search needs
+power-at-requires : tie.Need-power-at-requires
+power-at-requires c κs = search needs
 
 power-register-requires-2 : tie.Need-power-register-requires-2
 power-register-requires-2 c κs = search needs
@@ -37,7 +37,7 @@ power-register-requires-2 c κs = search needs
 cast-result-3 : tie.Need-cast-result-3
 cast-result-3 c =
     let s = c .before .before .before .before in
-    rw (c .power-register2 .ensures, c .before .before .before .tenths .ensures, c .before .signed-at .ensures)
+    rw (c .power-register2 .ensures, c .before .before .before .tenths .ensures, c .before .power-at .ensures)
     (record { fits = powers-fit .register (meterT (s .args .m)) (powerAt (s .args .m .latest) (s .args .which) .magnitude) (power-most (s .args .m) (s .args .which) (s .pre)) })
 
 returns : tie.Need-returns
@@ -50,7 +50,7 @@ returns-3 : tie.Need-returns-3
 returns-3 c =
     let s = c .before .before .before .before in
     let r = c .before .before .match .rest in
-    rw (c .power-register2 .ensures, c .before .before .before .tenths .ensures, c .before .signed-at .ensures)
+    rw (c .power-register2 .ensures, c .before .before .before .tenths .ensures, c .before .power-at .ensures)
     (sym (power-at (s .args .m) (s .args .which) (r .0 .1) (r .1)))
 
 pub power-spec : {M : Type 1} → statement M
@@ -61,7 +61,7 @@ power-spec =
     power-register-requires
     cast-result
     cast-result-2
-    signed-at-requires
+    power-at-requires
     power-register-requires-2
     cast-result-3
     returns

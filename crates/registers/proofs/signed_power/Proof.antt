@@ -8,14 +8,14 @@ use borrow.Author.Needs.{needs}
 use Rattle.registers.proofs.signed_power.Statement.{statement}
 use Rattle.registers.proofs.signed_power.Tie as tie
 
-signed-at-requires : tie.Need-signed-at-requires
-signed-at-requires c κs = search needs
+power-at-requires : tie.Need-power-at-requires
+power-at-requires c κs = search needs
 
 cast-twos-long : tie.Need-cast-twos-long
 cast-twos-long c =
     let s = c .before .before in
     let most = powers-fit .signed (meterT (s .args .m)) (powerAt (s .args .m .latest) (s .args .which) .magnitude) (power-most (s .args .m) (s .args .which) (s .pre)) in
-    rw (c .before .signed-at .ensures) (record { fits = omega (arith, most) })
+    rw (c .before .power-at .ensures) (record { fits = omega (arith, most) })
 
 twos-long-requires : tie.Need-twos-long-requires
 twos-long-requires c κs = search needs
@@ -23,8 +23,8 @@ twos-long-requires c κs = search needs
 returns : tie.Need-returns
 returns c =
     let s = c .before .before .before in
-    rw (c .twos-long .ensures, c .before .before .signed-at .ensures) (sym (signed-at (s .args .m) (s .args .which)))
+    rw (c .twos-long .ensures, c .before .before .power-at .ensures) (sym (signed-at (s .args .m) (s .args .which)))
 
 pub signed-power-spec : {M : Type 1} → statement M
 signed-power-spec =
-    tie.close (tie.spec signed-at-requires cast-twos-long twos-long-requires returns)
+    tie.close (tie.spec power-at-requires cast-twos-long twos-long-requires returns)

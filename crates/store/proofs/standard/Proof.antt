@@ -8,10 +8,10 @@ use borrow.Author.Needs.{needs}
 use borrow.Author.Tests.{not-true, not-false}
 use Rattle.setup.specs.Ranges.{groupOk}
 use Rattle.modbus.specs.declared.Verdict.the-variants.{Good}
-use Rattle.modbus.specs.Frame.{numberOf, wordsAt, valuesOf}
+use Rattle.modbus.specs.Frame.{wordNumber, wordsAt, valuesOf}
 use Rattle.modbus.proofs.Frames.{shaped-length}
 use Rattle.meter.specs.declared.Meter.{Meter}
-use Rattle.meter.specs.Answers.{withSetup}
+use Rattle.meter.specs.Meters.{withSetup}
 use Rattle.store.proofs.Stored.{not-16, bad-16, good-16}
 use Rattle.store.proofs.standard.Statement.{statement}
 use Rattle.store.proofs.standard.Tie as tie
@@ -31,7 +31,7 @@ slice-aggregate-values : tie.Need-slice-aggregate-values
 slice-aggregate-values c = search needs
 
 -- the count that was found
-number : (c : tie.Else1) → numberOf (c .before .before .before .args .frame .now) ≡ 16
+number : (c : tie.Else1) → wordNumber (c .before .before .before .args .frame .now) ≡ 16
 number c = sym (c .before .word-at .ensures) ∙ c .if1 .left
 
 values-requires : tie.Need-values-requires

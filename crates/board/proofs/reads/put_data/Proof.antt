@@ -11,7 +11,7 @@ use Rattle.directory.specs.Table.{directory}
 use Rattle.directory.specs.Run.{runItems, wordsOf}
 use Rattle.directory.proofs.Rules.{directory-ruled}
 use Rattle.directory.proofs.Sends.{run-sends}
-use Rattle.modbus.specs.Frame.{addressOf, functionOf, numberOf}
+use Rattle.modbus.specs.Frame.{addressOf, functionOf, wordNumber}
 use Rattle.modbus.proofs.Judged.{Asks, asks}
 use Rattle.modbus.proofs.Stores.{seals, length-sealed}
 use Rattle.board.specs.Reads.{itemsSent, readBytes}
@@ -25,7 +25,7 @@ asked s = asks directory (s .args .frame .now) (s .args .first) (s .args .count)
 inside : (s : tie.Start) → s .args .first + s .args .count ≤ length directory
 inside s = run-sends .inside directory _ _ (s .args .first) (s .args .count) directory-ruled (asked s .run)
 
-sends : (s : tie.Start) → wordsOf (runItems directory (s .args .first) (s .args .count)) ≡ numberOf (s .args .frame .now)
+sends : (s : tie.Start) → wordsOf (runItems directory (s .args .first) (s .args .count)) ≡ wordNumber (s .args .frame .now)
 sends s = run-sends .sends directory _ _ (s .args .first) (s .args .count) directory-ruled (asked s .run)
 
 shared-slice-read-buffer : tie.Need-shared-slice-read-buffer
@@ -69,7 +69,7 @@ bytes-for s n =
     itemsSent (s .args .m) (runItems directory (s .args .first) (s .args .count))
 
 abbrev bytes : tie.Start → List ℕ
-bytes s = bytes-for s (numberOf (s .args .frame .now))
+bytes s = bytes-for s (wordNumber (s .args .frame .now))
 
 abbrev start : tie.After-put-items → tie.Start
 start p = p .before .before .before .before .before .before .before .before

@@ -5,7 +5,7 @@ use Prim.Native.Nat.{ℕ}
 use borrow.Author.Tests.{not-true, not-false}
 use Rattle.meter.specs.Samples.{sampleOk}
 use Rattle.meter.specs.Meters.{meterT, meterOk, acceptedOf}
-use Rattle.meter.specs.After.{nextOf, meterBelowTop}
+use Rattle.meter.specs.After.{nextOf, meterWithinTop}
 use Rattle.meter.proofs.Cases.{after-1, after-5, after-6, after-accepted}
 use borrow.Author.Needs.{needs}
 use Rattle.meter.proofs.Meter.after.Statement.{statement}
@@ -32,8 +32,8 @@ sample-found w h =
 sample-in : (c : tie.Else2) → sampleOk (meterT (c .before .before .before .before .before .args .self)) (c .before .before .before .before .before .args .sample) ≡ true
 sample-in c = sample-found (c .before) (not-false _ (c .if2 .left))
 
-top-found : (t : tie.After-below-top) {b : Bool} → t .below-top .result ≡ b → meterBelowTop (nextOf (t .before .before .before .before .before .before .before .args .self) (t .before .before .before .before .before .before .before .args .sample)) ≡ b
-top-found t h = sym (t .below-top .ensures ∙ ap meterBelowTop (t .before .counted .ensures)) ∙ h
+top-found : (t : tie.After-within-top) {b : Bool} → t .within-top .result ≡ b → meterWithinTop (nextOf (t .before .before .before .before .before .before .before .args .self) (t .before .before .before .before .before .before .before .args .sample)) ≡ b
+top-found t h = sym (t .within-top .ensures ∙ ap meterWithinTop (t .before .counted .ensures)) ∙ h
 
 returns : tie.Need-returns
 returns c =
@@ -58,8 +58,8 @@ returns-2 c =
 counted-requires : tie.Need-counted-requires
 counted-requires c κs = (in-limits (c .before .before .before), sample-in c)
 
-below-top-requires : tie.Need-below-top-requires
-below-top-requires c κs = search needs
+within-top-requires : tie.Need-within-top-requires
+within-top-requires c κs = search needs
 
 refused-requires-3 : tie.Need-refused-requires-3
 refused-requires-3 c κs = search needs
@@ -91,7 +91,7 @@ after-spec =
     refused-requires-2
     returns-2
     counted-requires
-    below-top-requires
+    within-top-requires
     refused-requires-3
     returns-3
     returns-4)

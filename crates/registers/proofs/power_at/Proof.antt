@@ -8,8 +8,8 @@ use Rattle.meter.proofs.Parts.{meter-parts, held-p, held-q}
 use Rattle.registers.specs.Shown.{powersOf, powerAt}
 use Rattle.registers.proofs.Values.{onward}
 use borrow.Author.Needs.{needs}
-use Rattle.registers.proofs.signed_at.Statement.{statement}
-use Rattle.registers.proofs.signed_at.Tie as tie
+use Rattle.registers.proofs.power_at.Statement.{statement}
+use Rattle.registers.proofs.power_at.Tie as tie
 
 three-requires : tie.Need-three-requires
 three-requires c κs =
@@ -93,8 +93,8 @@ returns-9 c =
     let past = onward 7 (onward 6 r6 (r .0 .1)) (r .1) in
     sym (List·getD-eq-default (powersOf (s .args .m .latest)) (record { negative = false; magnitude = 0 }) past)
 
-pub signed-at-spec : {M : Type 1} → statement M
-signed-at-spec =
+pub power-at-spec : {M : Type 1} → statement M
+power-at-spec =
     tie.close
     (tie.spec
     three-requires

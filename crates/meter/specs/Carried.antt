@@ -1,4 +1,4 @@
--- Demand 3's ground: the four energies of a meter, and what each sample adds to them.
+-- Paper 01, "The meter's record" and demand 3: what each sample adds to the four energies.
 use mathlib.Core.Path.{_≡_}
 use Prim.Native.Nat.{ℕ, _+_}
 use mathlib.Core.Bool.{Bool, true, false, cond}
@@ -6,23 +6,14 @@ use mathlib.Core.List.{List, [], _∷_}
 use lib.ListN.{getD}
 use Rattle.signed.specs.Signs.{aboveOf, belowOf}
 use Rattle.ratio.specs.declared.Ratios.{Ratios}
-use Rattle.meter.specs.declared.energies.Energy.{Energy}
 use Rattle.meter.specs.declared.samples.Sample.{Sample}
 use Rattle.meter.specs.declared.Answer.{Answer}
 use Rattle.meter.specs.declared.Answer.the-variants.{Accepted, Refused}
 use Rattle.meter.specs.declared.Meter.{Meter}
 use Rattle.meter.specs.Samples.{threeOf}
 use Rattle.meter.specs.Energies.{valueOf}
-use Rattle.meter.specs.Meters.{noEnergy, newOf}
+use Rattle.meter.specs.Meters.{energyAt, newOf}
 use Rattle.meter.specs.After.{afterOf}
-
--- the four energies, in the order of the directory: +Ea, -Ea, +Er, -Er
-abbrev pub energiesOf : Meter → List Energy
-energiesOf m = m .active .positive ∷ m .active .negative ∷ m .reactive .positive ∷ m .reactive .negative ∷ []
-
--- the one of a number
-abbrev pub energyAt : ℕ → Meter → Energy
-energyAt e m = getD (energiesOf m) e noEnergy
 
 -- what a sample carries for each of them, in hundredths of a watt-second
 abbrev pub carriesOf : Sample → List ℕ
