@@ -1,5 +1,5 @@
-// What a register shows of an energy, and an energy joined of what is shown (paper 01, "Steps of the registers" and
-// "Collector"). A register count is not yet an energy: `Count` and `WattHours` are kept apart until a step is applied.
+// What registers show of an energy, its count and wrap, its Low and High (paper 01, "Steps of the registers"), and joining
+// these ("Collector"). The step is looked up by T, so no caller hands one in.
 ghost use mathlib.Core.Path.{_≡_};
 ghost use Prim.Native.Nat.{_≤_};
 ghost use Rattle.counts.specs.Energies.{countOf, registerOf, wrapOf, lowOf, highOf, energyOf, joinOf, joinHalvesOf};
