@@ -9,11 +9,11 @@ use borrow.Author.Tests.{leb-false, lt-leb}
 use Rattle.refusal.specs.declared.Refusal.{Refusal}
 use Rattle.refusal.specs.declared.Refusal.the-variants.{RatioOutOfLimits, JoinPastTop}
 use Rattle.refusal.specs.Numbers.{refusalNumber}
-use Rattle.ratio.specs.declared.WattHours.{WattHours}
-use Rattle.ratio.specs.declared.Joined.{Joined}
-use Rattle.ratio.specs.declared.Joined.the-variants.{Energy, Refused}
 use Rattle.ratio.specs.Ratios.{ratiosOk}
-use Rattle.ratio.specs.Energies.{joinOf, joinHalvesOf}
+use Rattle.counts.specs.declared.WattHours.{WattHours}
+use Rattle.counts.specs.declared.Joined.{Joined}
+use Rattle.counts.specs.declared.Joined.the-variants.{Energy, Refused}
+use Rattle.counts.specs.Energies.{joinOf, joinHalvesOf}
 use Rattle.collector.specs.Answers.{JoinsWhen}
 
 -- the number of a join's refusal; 0 for an energy

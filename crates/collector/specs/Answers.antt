@@ -14,10 +14,10 @@ use Rattle.refusal.specs.Numbers.{errorNumber}
 use Rattle.crc.specs.Crc.{intact}
 use Rattle.words.specs.Words.{valueAt}
 use Rattle.ratio.specs.declared.Ratios.{Ratios}
-use Rattle.ratio.specs.declared.Count.{Count}
-use Rattle.ratio.specs.declared.Joined.the-variants as joined
 use Rattle.ratio.specs.Ratios.{ratiosOk, tOf}
-use Rattle.ratio.specs.Energies.{joinOf, joinHalvesOf}
+use Rattle.counts.specs.declared.Count.{Count}
+use Rattle.counts.specs.declared.Joined.the-variants as joined
+use Rattle.counts.specs.Energies.{joinOf, joinHalvesOf}
 use Rattle.directory.specs.declared.Item.{Item}
 use Rattle.directory.specs.declared.Span.the-variants.{Items}
 use Rattle.directory.specs.Item.{none}

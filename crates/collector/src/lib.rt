@@ -13,12 +13,12 @@ use directory::Span;
 use directory::table;
 
 // The whole face stands here: beside `read` its answers, and the joins with their refusals.
-pub use ratio::Count;
-pub use ratio::Joined;
+pub use counts::Count;
+pub use counts::Joined;
+pub use counts::WattHours;
+pub use counts::join;
+pub use counts::join_halves;
 pub use ratio::Ratios;
-pub use ratio::WattHours;
-pub use ratio::join;
-pub use ratio::join_halves;
 pub use reading::Answer;
 pub use reading::Quantity;
 pub use refusal::ErrorCode;

@@ -7,10 +7,11 @@ use Prim.Native.Nat.{ℕ, _/_, _%_, _≤_, _<_}
 use native.Mathlib.Omega.{arith}
 use lib.ListN.{getD}
 use Rattle.ratio.specs.declared.Ratios.{Ratios}
-use Rattle.ratio.specs.declared.WattHours.{WattHours}
+use Rattle.counts.specs.declared.WattHours.{WattHours}
 use Rattle.ratio.specs.Ratios.{ratiosOk, tOf}
-use Rattle.ratio.specs.Energies.{stepOf, registerOf, wrapOf, lowOf, highOf, energyOf, topWh, roundedOf}
-use Rattle.ratio.proofs.Joins.{join-split}
+use Rattle.ratio.specs.Steps.{stepOf}
+use Rattle.counts.specs.Energies.{registerOf, wrapOf, lowOf, highOf, energyOf, topWh, roundedOf}
+use Rattle.counts.proofs.Joins.{join-split}
 use Rattle.directory.specs.Quantity.{quantity, energyCount, low, high, wrap}
 use Rattle.reading.specs.declared.Quantity.{Quantity}
 use Rattle.reading.specs.declared.Quantity.the-variants as read

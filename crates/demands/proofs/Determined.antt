@@ -5,8 +5,8 @@ use Prim.Native.Nat.{ℕ}
 use native.Mathlib.Omega.{arith}
 use lib.ListN.{getD}
 use Rattle.refusal.proofs.Distinct.{one-reason-each}
-use Rattle.ratio.specs.declared.Joined.{Joined}
-use Rattle.ratio.specs.declared.Joined.the-variants as joined
+use Rattle.counts.specs.declared.Joined.{Joined}
+use Rattle.counts.specs.declared.Joined.the-variants as joined
 use Rattle.reading.proofs.Told.{one-answer-each}
 use Rattle.meter.specs.declared.Answer as meter
 use Rattle.meter.specs.declared.Answer.the-variants as taken

@@ -16,7 +16,7 @@ use Rattle.words.specs.Signed.{twos}
 use Rattle.words.proofs.Signs.{signed-back}
 use Rattle.ratio.specs.Powers.{signWord}
 use Rattle.ratio.proofs.Powers.{powers-fit}
-use Rattle.ratio.proofs.Joins.{counts-fit}
+use Rattle.counts.proofs.Joins.{counts-fit}
 use Rattle.directory.specs.declared.Item.{Item}
 use Rattle.directory.specs.Item.{none}
 use Rattle.directory.specs.Table.{directory}

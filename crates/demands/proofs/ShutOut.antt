@@ -7,7 +7,8 @@ use native.Mathlib.Nat.{div-eq-of-lt-le}
 use native.Mathlib.Omega.{arith}
 use Rattle.ratio.specs.declared.Ratios.{Ratios}
 use Rattle.ratio.specs.Powers.{powerLimit}
-use Rattle.ratio.specs.Energies.{stepOf, registerOf, wrapOf, energyOf}
+use Rattle.ratio.specs.Steps.{stepOf}
+use Rattle.counts.specs.Energies.{registerOf, wrapOf, energyOf}
 use Rattle.setup.specs.Ranges.{wordOk, groupOk}
 use Rattle.directory.specs.Quantity.{posEa}
 use Rattle.meter.specs.declared.Answer.the-variants.{Accepted}

@@ -6,11 +6,12 @@ use mathlib.Core.Bool.{false}
 use mathlib.Core.List.{List}
 use lib.ListN.{length}
 use Rattle.ratio.specs.declared.Ratios.{Ratios}
-use Rattle.ratio.specs.declared.Count.{Count}
-use Rattle.ratio.specs.declared.WattHours.{WattHours}
-use Rattle.ratio.specs.declared.Joined.the-variants as joined
+use Rattle.counts.specs.declared.Count.{Count}
+use Rattle.counts.specs.declared.WattHours.{WattHours}
+use Rattle.counts.specs.declared.Joined.the-variants as joined
 use Rattle.ratio.specs.Ratios.{tOf}
-use Rattle.ratio.specs.Energies.{stepOf, joinOf, joinHalvesOf}
+use Rattle.ratio.specs.Steps.{stepOf}
+use Rattle.counts.specs.Energies.{joinOf, joinHalvesOf}
 use Rattle.directory.specs.Quantity.{energyCount, wrap, low, high}
 use Rattle.modbus.specs.Frame.{addressOf}
 use Rattle.reading.specs.declared.Quantity.the-variants as read

@@ -7,10 +7,10 @@ use mathlib.Core.List.{List, [], _∷_}
 use Rattle.refusal.specs.Numbers.{refusalNumber}
 use Rattle.crc.specs.Crc.{Put}
 use Rattle.ratio.specs.declared.Ratios.{Ratios}
-use Rattle.ratio.specs.declared.Count.{Count}
-use Rattle.ratio.specs.declared.Joined.{Joined}
-use Rattle.ratio.specs.declared.Joined.the-variants as joined
-use Rattle.ratio.specs.Energies.{joinOf, joinHalvesOf}
+use Rattle.counts.specs.declared.Count.{Count}
+use Rattle.counts.specs.declared.Joined.{Joined}
+use Rattle.counts.specs.declared.Joined.the-variants as joined
+use Rattle.counts.specs.Energies.{joinOf, joinHalvesOf}
 use Rattle.reading.specs.declared.Answer.{Answer}
 use Rattle.reading.specs.Cases.{told}
 use Rattle.collector.specs.Collector.{collectorOf}

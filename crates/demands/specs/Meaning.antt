@@ -8,7 +8,8 @@ use lib.Dec.{ltb}
 use lib.ListN.{length, getD}
 use Rattle.signed.specs.declared.Signed.{Signed}
 use Rattle.ratio.specs.Powers.{powerUnit, powerRegister, signWord}
-use Rattle.ratio.specs.Energies.{stepOf, registerOf, wrapOf, lowOf, highOf, energyOf}
+use Rattle.ratio.specs.Steps.{stepOf}
+use Rattle.counts.specs.Energies.{registerOf, wrapOf, lowOf, highOf, energyOf}
 use Rattle.directory.specs.Item.{none}
 use Rattle.directory.specs.Table.{directory}
 use Rattle.meter.specs.declared.energies.Energy.{Energy}

@@ -5,7 +5,8 @@ use Prim.Native.Nat.{ℕ, _+_, _*_, _/_, _≤_}
 use mathlib.Core.List.{List, [], _∷_}
 use lib.IntN.{pos}
 use Rattle.ratio.specs.declared.Ratios.{Ratios}
-use Rattle.ratio.specs.Energies.{stepOf, registerOf, wrapOf, energyOf}
+use Rattle.ratio.specs.Steps.{stepOf}
+use Rattle.counts.specs.Energies.{registerOf, wrapOf, energyOf}
 use Rattle.directory.specs.Quantity.{posEa}
 use Rattle.meter.specs.declared.Answer.the-variants.{Accepted}
 use Rattle.meter.specs.declared.samples.Sample.{Sample}

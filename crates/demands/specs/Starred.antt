@@ -8,10 +8,11 @@ use Rattle.signed.specs.Signs.{signedOf}
 use Rattle.crc.specs.Crc.{crcOf, onLine, sealed}
 use Rattle.words.specs.Words.{sent}
 use Rattle.ratio.specs.declared.Ratios.{Ratios}
-use Rattle.ratio.specs.declared.WattHours.{WattHours}
+use Rattle.counts.specs.declared.WattHours.{WattHours}
 use Rattle.ratio.specs.Ratios.{tOf}
 use Rattle.ratio.specs.Powers.{powerUnit, signWord, signedPower, factorHundredths, factorThousandths}
-use Rattle.ratio.specs.Energies.{stepOf, registerOf, wrapOf, lowOf, highOf}
+use Rattle.ratio.specs.Steps.{stepOf}
+use Rattle.counts.specs.Energies.{registerOf, wrapOf, lowOf, highOf}
 use Rattle.reading.specs.Cases.{told}
 use Rattle.collector.specs.Collector.{collectorOf}
 

@@ -15,7 +15,7 @@ use Rattle.signed.specs.Signs.{aboveOf, belowOf}
 use Rattle.ratio.specs.declared.Ratios.{Ratios}
 use Rattle.ratio.specs.Ratios.{ratiosOk, tOf}
 use Rattle.ratio.specs.Powers.{powerLimit}
-use Rattle.ratio.specs.Energies.{topWh}
+use Rattle.counts.specs.Energies.{topWh}
 use Rattle.setup.specs.Ranges.{groupOk, wordOk}
 use Rattle.meter.specs.declared.samples.Sample.{Sample}
 use Rattle.meter.specs.declared.energies.Energy.{Energy}

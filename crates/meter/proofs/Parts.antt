@@ -9,8 +9,8 @@ use lib.IntN.{natAbs}
 use borrow.Author.Tests.{leb-true}
 use Rattle.ratio.specs.Ratios.{ratiosOk}
 use Rattle.ratio.specs.Powers.{powerLimit}
-use Rattle.ratio.specs.Energies.{topWh}
 use Rattle.ratio.proofs.Powers.{power-laws}
+use Rattle.counts.specs.Energies.{topWh}
 use Rattle.meter.specs.declared.samples.Powers.{Powers}
 use Rattle.meter.specs.declared.samples.Sample.{Sample}
 use Rattle.meter.specs.declared.energies.Energy.{Energy}

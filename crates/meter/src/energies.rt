@@ -1,11 +1,11 @@
 // An energy: whole Wh (varh) and what is left over (paper 01, "The meter's record").
 ghost use mathlib.Core.Path.{_≡_};
 ghost use Prim.Native.Nat.{_≤_};
-ghost use Rattle.ratio.specs.Energies.{topWh};
+ghost use Rattle.counts.specs.Energies.{topWh};
 ghost use Rattle.meter.specs.Fits.{Room};
 ghost use Rattle.meter.specs.Energies.{energyOk, plusOf, energiesOk, withinTop, withPower};
 use crate::Meter;
-use ratio::WattHours;
+use counts::WattHours;
 use signed::Signed;
 
 pub struct Energy {

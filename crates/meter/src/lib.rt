@@ -7,10 +7,10 @@ ghost use mathlib.Core.Bool.{true};
 ghost use Rattle.meter.specs.Samples.{sampleOk};
 ghost use Rattle.meter.specs.Meters.{meterT, meterOk, setupWithin, blankOf, refusedOf, newOf};
 ghost use Rattle.meter.specs.After.{nextOf, meterWithinTop, afterOf};
+use counts::WattHours;
 use energies::Energies;
 use energies::Energy;
 use ratio::Ratios;
-use ratio::WattHours;
 use refusal::Refusal;
 use samples::Sample;
 

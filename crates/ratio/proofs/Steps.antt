@@ -3,7 +3,7 @@ use Prim.Native.Nat.{_≤_}
 use mathlib.Core.Bool.{Bool, true, false, cond}
 use native.Mathlib.Omega.{arith}
 use lib.Dec.{ltb}
-use Rattle.ratio.specs.Energies.{stepOf, StepLaws}
+use Rattle.ratio.specs.Steps.{stepOf, StepLaws}
 
 least : (a b c d : Bool) → 10 ≤ cond a 10 (cond b 100 (cond c 1000 (cond d 10000 100000)))
 least true b c d = omega arith

@@ -1,3 +1,3 @@
 pub mod Ratios
 pub mod Powers
-pub mod Energies
+pub mod Steps

@@ -9,7 +9,8 @@ use Rattle.refusal.specs.declared.Refusal.the-variants.{ValueImpossible}
 use Rattle.signed.specs.declared.Signed.{Signed}
 use Rattle.words.specs.Signed.{negativeIn, magnitudeIn}
 use Rattle.ratio.specs.Powers.{powerUnit}
-use Rattle.ratio.specs.Energies.{stepOf, energyOf}
+use Rattle.ratio.specs.Steps.{stepOf}
+use Rattle.counts.specs.Energies.{energyOf}
 use Rattle.directory.specs.declared.Item.{Item}
 use Rattle.directory.specs.Quantity.{wholeS}
 use Rattle.directory.specs.Run.{isL}

@@ -12,7 +12,7 @@ use lib.Seq.{getD-append-add}
 use Rattle.signed.specs.declared.Signed.{Signed}
 use Rattle.words.proofs.Signs.{twos-plain}
 use Rattle.ratio.specs.Powers.{powerLimit, powerRegister, signWord, signedPower}
-use Rattle.ratio.specs.Energies.{topWh, registerOf, wrapOf, lowOf, highOf}
+use Rattle.counts.specs.Energies.{topWh, registerOf, wrapOf, lowOf, highOf}
 use Rattle.meter.specs.declared.energies.Energy.{Energy}
 use Rattle.meter.specs.declared.Meter.{Meter}
 use Rattle.meter.specs.Energies.{energyOk}

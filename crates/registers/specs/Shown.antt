@@ -7,7 +7,7 @@ use lib.ListN.{getD}
 use Rattle.signed.specs.declared.Signed.{Signed}
 use Rattle.signed.specs.Signs.{signedOf}
 use Rattle.ratio.specs.Powers.{powerRegister, signWord, signedPower, factorHundredths, factorThousandths}
-use Rattle.ratio.specs.Energies.{registerOf, wrapOf, lowOf, highOf}
+use Rattle.counts.specs.Energies.{registerOf, wrapOf, lowOf, highOf}
 use Rattle.meter.specs.declared.energies.Energy.{Energy}
 use Rattle.meter.specs.declared.samples.Sample.{Sample}
 use Rattle.meter.specs.declared.Meter.{Meter}

@@ -9,10 +9,10 @@ ghost use Rattle.ratio.specs.Powers.{signWord};
 ghost use Rattle.meter.specs.Samples.{factorOf};
 ghost use Rattle.meter.specs.Meters.{meterOk, energyAt};
 ghost use Rattle.registers.specs.Shown.{powerAt, powerValues, signedValues, signValues, countValues, lowValues, highValues, wrapValues, factorValues, plainValues, shownOf};
+use counts::WattHours;
 use directory::quantity::*;
 use meter::Meter;
 use meter::samples::Factor;
-use ratio::WattHours;
 use signed::Signed;
 
 pub fn shown(m: Meter, quantity: u16) -> u32

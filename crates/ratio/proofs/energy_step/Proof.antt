@@ -1,7 +1,7 @@
 -- The tests are the table's own, row by row.
 use native.Mathlib.Omega.{arith}
 use borrow.Author.Tests.{lt-ltb, le-ltb}
-use Rattle.ratio.specs.Energies.{stepOf}
+use Rattle.ratio.specs.Steps.{stepOf}
 use Rattle.ratio.proofs.energy_step.Statement.{statement}
 use Rattle.ratio.proofs.energy_step.Tie as tie
 

@@ -1,6 +1,6 @@
 use mathlib.Core.Path.{sym}
 use native.Mathlib.Omega.{arith}
-use Rattle.ratio.proofs.Joins.{counts-fit}
+use Rattle.counts.proofs.Joins.{counts-fit}
 use Rattle.meter.specs.Meters.{energyAt}
 use Rattle.registers.proofs.Values.{high-at, energy-most}
 use borrow.Author.Needs.{needs}

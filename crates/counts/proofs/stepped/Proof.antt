@@ -2,10 +2,10 @@
 use mathlib.Core.Path.{refl}
 use native.Mathlib.Nat.{mul-le-mul}
 use native.Mathlib.Omega.{arith}
 use Rattle.ratio.proofs.Steps.{step-laws}
 use borrow.Author.Needs.{needs}
-use Rattle.ratio.proofs.stepped.Statement.{statement}
-use Rattle.ratio.proofs.stepped.Tie as tie
+use Rattle.counts.proofs.stepped.Statement.{statement}
+use Rattle.counts.proofs.stepped.Tie as tie
 
 energy-step-requires : tie.Need-energy-step-requires
 energy-step-requires c κs = search needs

@@ -6,12 +6,13 @@ use Prim.Native.Nat.{ℕ, _≤_, _<_}
 use native.Mathlib.Nat.{div-add-mod', div-lt-iff-lt-mul, div-mul-le-self, lt-div-mul-add, mul-le-mul-left}
 use native.Mathlib.Omega.{arith}
 use borrow.Author.Tests.{le-leb}
 use Rattle.ratio.specs.declared.Ratios.{Ratios}
-use Rattle.ratio.specs.declared.WattHours.{WattHours}
-use Rattle.ratio.specs.declared.Joined.the-variants.{Energy}
 use Rattle.ratio.specs.Ratios.{ratiosOk, tOf}
-use Rattle.ratio.specs.Energies.{stepOf, countOf, registerOf, wrapOf, lowOf, highOf, joinOf, joinHalvesOf, topWh, roundedOf, CountsFit, JoinSplit}
+use Rattle.ratio.specs.Steps.{stepOf}
 use Rattle.ratio.proofs.Steps.{step-laws}
+use Rattle.counts.specs.declared.WattHours.{WattHours}
+use Rattle.counts.specs.declared.Joined.the-variants.{Energy}
+use Rattle.counts.specs.Energies.{countOf, registerOf, wrapOf, lowOf, highOf, joinOf, joinHalvesOf, topWh, roundedOf, CountsFit, JoinSplit}
 
 wrap : (t : ℕ) (e : WattHours) → e .0 ≤ topWh → wrapOf t e < 65536
 wrap t e h =

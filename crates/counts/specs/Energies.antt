@@ -1,25 +1,17 @@
--- Paper 01, "Steps of the registers": the energy step, count, register and wrap, Low and High; and "Collector": joining.
+-- Paper 01, "Steps of the registers": count, register and wrap, Low and High; and "Collector": joining.
 -- A register count is not yet an energy: `Count` and `WattHours` are kept apart until a step is applied.
 use mathlib.Core.Path.{_≡_}
 use Prim.Native.Nat.{ℕ, _+_, _*_, _/_, _%_, _≤_, _<_}
 use mathlib.Core.Bool.{true, _&&_, cond}
-use lib.Dec.{leb, ltb}
+use lib.Dec.{leb}
 use Rattle.refusal.specs.declared.Refusal.the-variants.{RatioOutOfLimits, JoinPastTop}
 use Rattle.ratio.specs.declared.Ratios.{Ratios}
-use Rattle.ratio.specs.declared.Count.{Count}
-use Rattle.ratio.specs.declared.WattHours.{WattHours}
-use Rattle.ratio.specs.declared.Joined.{Joined}
-use Rattle.ratio.specs.declared.Joined.the-variants.{Energy, Refused}
 use Rattle.ratio.specs.Ratios.{ratiosOk, tOf}
-
--- the table of T and the energy step, Wh
-unfoldable pub stepOf : ℕ → ℕ
-stepOf t =
-    cond (ltb t 100) 10
-    (cond (ltb t 1000) 100
-    (cond (ltb t 10000) 1000
-    (cond (ltb t 100000) 10000
-    100000)))
+use Rattle.ratio.specs.Steps.{stepOf}
+use Rattle.counts.specs.declared.Count.{Count}
+use Rattle.counts.specs.declared.WattHours.{WattHours}
+use Rattle.counts.specs.declared.Joined.{Joined}
+use Rattle.counts.specs.declared.Joined.the-variants.{Energy, Refused}
 
 -- the count is Wh divided by the step, rounded down
 abbrev pub countOf : ℕ → WattHours → ℕ
@@ -64,11 +56,6 @@ joinHalvesOf low high =
 -- the top of an energy, in Wh
 abbrev pub topWh : ℕ
 topWh = 65535999999999
-
--- STATEMENT: what callers may know of the step
-pub record StepLaws : Type 0 where
-  pub least : (t : ℕ) → 10 ≤ stepOf t
-  pub most : (t : ℕ) → stepOf t ≤ 100000
 
 -- STATEMENT: for every energy up to the top, register, wrap, Low and High fit their words and are never refused in a join
 pub record CountsFit : Type 0 where

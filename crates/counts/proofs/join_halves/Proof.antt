@@ -1,8 +1,8 @@
 -- One test of both halves; as it falls, so does the definition.
-use Rattle.ratio.specs.Energies.{joinHalvesOf}
+use Rattle.counts.specs.Energies.{joinHalvesOf}
 use borrow.Author.Needs.{needs}
-use Rattle.ratio.proofs.join_halves.Statement.{statement}
-use Rattle.ratio.proofs.join_halves.Tie as tie
+use Rattle.counts.proofs.join_halves.Statement.{statement}
+use Rattle.counts.proofs.join_halves.Tie as tie
 
 mul-t7 : tie.Need-mul-t7
 mul-t7 c = search needs

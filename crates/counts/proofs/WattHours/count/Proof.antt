@@ -1,10 +1,10 @@
 -- No step is 0.
 use mathlib.Core.Path.{refl}
 use native.Mathlib.Omega.{arith}
 use Rattle.ratio.proofs.Steps.{step-laws}
 use borrow.Author.Needs.{needs}
-use Rattle.ratio.proofs.WattHours.count.Statement.{statement}
-use Rattle.ratio.proofs.WattHours.count.Tie as tie
+use Rattle.counts.proofs.WattHours.count.Statement.{statement}
+use Rattle.counts.proofs.WattHours.count.Tie as tie
 
 energy-step-requires : tie.Need-energy-step-requires
 energy-step-requires c κs = search needs

@@ -1,8 +1,8 @@
 -- The remainder by a turn of the register, of the count.
 use mathlib.Core.Path.{refl}
 use borrow.Author.Needs.{needs}
-use Rattle.ratio.proofs.WattHours.register.Statement.{statement}
-use Rattle.ratio.proofs.WattHours.register.Tie as tie
+use Rattle.counts.proofs.WattHours.register.Statement.{statement}
+use Rattle.counts.proofs.WattHours.register.Tie as tie
 
 count-requires : tie.Need-count-requires
 count-requires c κs = search needs

@@ -2,10 +2,10 @@
 use mathlib.Core.Path.{sym, _∙_}
 use native.Mathlib.Omega.{arith}
 use borrow.Author.Tests.{le-leb, lt-leb, not-true, not-false}
-use Rattle.ratio.specs.Energies.{joinOf}
+use Rattle.counts.specs.Energies.{joinOf}
 use borrow.Author.Needs.{needs}
-use Rattle.ratio.proofs.join.Statement.{statement}
-use Rattle.ratio.proofs.join.Tie as tie
+use Rattle.counts.proofs.join.Statement.{statement}
+use Rattle.counts.proofs.join.Tie as tie
 
 within-requires : tie.Need-within-requires
 within-requires c κs = search needs
