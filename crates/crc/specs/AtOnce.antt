@@ -12,6 +12,7 @@ pub data Linear : Type 0 where
   shr shl low : ℕ → Linear → Linear
   xor on : Linear → Linear → Linear
 
+-- what each makes of a number
 abbrev pub run : Linear → ℕ → ℕ
 run it x = x
 run (shr k f) x = run f x / 2 ^ k
@@ -38,6 +39,7 @@ narrowed =
 abbrev halved : ℕ → Linear → Linear
 halved k f = on (xor it (shr k it)) f
 
+-- 1 if an odd number of the bits are set
 abbrev pub parity : Linear
 parity = low 1 (halved 1 (halved 2 (halved 4 (halved 8 (halved 16 (halved 32 it))))))
 

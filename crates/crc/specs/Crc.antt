@@ -55,7 +55,7 @@ pub record IntactIsSealed : Type 0 where
   pub passes : (bs : List ℕ) → intact (sealed bs) ≡ true
   pub only : (frame : List ℕ) → intact frame ≡ true → frame ≡ sealed (body frame)
 
--- a buffer with the CRC of its first n bytes put behind them, and a word on whether it has room for that; without room it stays
+-- a buffer with the CRC of its first n bytes put behind them, and whether it has room for that; without room it stays
 pub record Put (before : List ℕ) (n : ℕ) (room : Bool) (after : List ℕ) : Type 0 where
   pub answer : room ≡ leb (n + 2) (length before)
   pub bytes : after ≡ cond (leb (n + 2) (length before)) (sets before n (onLine (crcOf (take n before)))) before

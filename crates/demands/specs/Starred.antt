@@ -21,6 +21,7 @@ pub record Example : Type 0 where
   pub given : List ℕ
   pub says : List ℕ
 
+-- the two beside each other
 abbrev example : List ℕ → List ℕ → Example
 example given says = record { given = given; says = says }
 
@@ -44,10 +45,11 @@ signs p = signWord (p .negative) ∷ signedPower (p .negative) (p .magnitude) �
 abbrev factors : Signed → List ℕ
 factors f = sent 1 (factorHundredths (f .negative) (f .magnitude)) ++ sent 2 (factorThousandths (f .negative) (f .magnitude))
 
--- a poll of the first voltage (003): request and answer, without their CRCs
+-- the request for the first voltage (003), without its CRC
 abbrev asked : List ℕ
 asked = 0x01 ∷ 0x03 ∷ 0x03 ∷ 0x01 ∷ 0x00 ∷ 0x02 ∷ []
 
+-- and its answer
 abbrev answer : List ℕ
 answer = 0x01 ∷ 0x03 ∷ 0x04 ∷ 0x00 ∷ 0x01 ∷ 0x86 ∷ 0xA0 ∷ []
 

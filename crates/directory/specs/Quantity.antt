@@ -4,9 +4,11 @@ use Prim.Native.Nat.{ℕ, _+_, _*_, _/_, _%_}
 use mathlib.Core.List.{List, [], _∷_}
 use lib.ListN.{getD, replicate}
 
+-- the number of a quantity
 abbrev pub quantity : ℕ → ℕ → ℕ
 quantity kind which = 64 * kind + which
 
+-- the kinds, from 1 on in the order of the paper's list
 abbrev pub voltage : ℕ → ℕ
 voltage which = quantity 1 which
 

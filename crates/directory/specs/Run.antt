@@ -47,10 +47,11 @@ runFrom dir first count address (suc (suc due)) =
 unfoldable pub runIn : List Item → ℕ → ℕ → Span
 runIn dir start words = onItem dir (findIn dir start 0) (λ first _. runFrom dir first 0 start words)
 
--- the items of a run, and the words that some items send
+-- the items of a run
 abbrev pub runItems : List Item → ℕ → ℕ → List Item
 runItems dir first count = take count (drop first dir)
 
+-- the words that some items send
 unfoldable pub wordsOf : List Item → ℕ
 wordsOf [] = 0
 wordsOf (it ∷ its) = it .words + wordsOf its

@@ -22,6 +22,7 @@ wordL start quantity = item start 2 2 quantity
 abbrev wordW : ℕ → ℕ → Item
 wordW start quantity = item start 1 1 quantity
 
+-- the items, addresses ascending
 unfoldable pub directory : List Item
 directory =
     byteW 0x100 kta ∷

@@ -53,7 +53,7 @@ silence own frame =
     (not (eqb (addressOf frame) 0) && not (eqb (addressOf frame) own)) ||
     leb 0x80 (functionOf frame)
 
--- 5. Word number 0, byte number not twice the word number, or length not 9 plus byte number (length under 9 too): not so
+-- 5. word number not 0, byte number twice it, length 9 plus byte number, and so 9 at least; else error 03
 unfoldable pub writeShaped : List ℕ → Bool
 writeShaped frame =
     not (ltb (length frame) 9) &&

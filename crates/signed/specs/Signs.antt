@@ -1,4 +1,4 @@
--- A signed number, as the paper speaks of one: its magnitude, and whether it is negative.
+-- Paper 01, "The meter's record": P and Q are signed. A signed number is its magnitude, and whether it is negative.
 use Prim.Native.Nat.{ℕ}
 use mathlib.Core.Bool.{Bool, true, false, cond}
 use lib.IntN.{ℤ, pos, negsuc, natAbs}
