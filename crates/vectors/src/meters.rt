@@ -1,5 +1,6 @@
 // The meter's examples: samples, what its registers then show, and what it refuses.
 use crate::say;
+use board::Reply;
 use directory::quantity::*;
 use meter::Answer;
 use meter::Answered;
@@ -104,7 +105,7 @@ fn show(m: Meter, quantities: &[u16]) {
     say::end();
 }
 
-// Each refusal of a new meter and of a sample, once.
+// Each refusal of a new meter, of a sample and of a frame, once.
 pub fn refusals() {
     answer(
         b"KTA 0, address 0",
@@ -114,6 +115,7 @@ pub fn refusals() {
     out_of_limits();
     least();
     past_top();
+    of_a_frame();
 }
 
 // A record, and a sample.
@@ -163,4 +165,26 @@ fn past_top() {
     };
     answer(b"359999 hundredths at the top", m.after(sample(some, 0)));
     answer(b"360000 hundredths at the top", m.after(sample(more, 0)));
+}
+
+// Record and buffer are looked at before the frame, which is too short to be heard.
+fn of_a_frame() {
+    let mut full = new();
+    full.active.positive.remainder = 360_000;
+    let mut room = [0u8; 256];
+    handled(b"a frame to a remainder of 360000", full, &mut room);
+    let mut short = [0u8; 255];
+    handled(b"a frame with a buffer of 255 bytes", new(), &mut short);
+}
+
+fn handled(name: &[u8], m: Meter, buffer: &mut [u8]) {
+    say::text(name);
+    let handled = board::handle(m, &[1u8, 3], buffer);
+    let reply = handled.reply;
+    match reply {
+        Reply::Silent => say::text(b": silent"),
+        Reply::Sent(n) => say::field(b": bytes sent ", n as u64),
+        Reply::Refused(r) => say::field(b": refused ", r.number() as u64),
+    }
+    say::end();
 }

@@ -1,11 +1,10 @@
 -- A reply has 256 bytes at the most.
-use mathlib.Core.Path.{_≡_, sym, ap, _∙_}
+use mathlib.Core.Path.{_≡_, sym}
 use Prim.Native.Nat.{_≤_}
 use native.Mathlib.Omega.{arith}
 use lib.Seq.{length-take-le}
-use Rattle.board.specs.declared.Handled.{Handled}
 use Rattle.board.specs.declared.Reply.the-variants.{Sent}
-use Rattle.board.proofs.Answers.{replies-sealed}
+use Rattle.board.proofs.Answers.{reply-long}
 use borrow.Author.Needs.{needs}
 use Rattle.vectors.proofs.frames.ask.Statement.{statement}
 use Rattle.vectors.proofs.frames.ask.Tie as tie
@@ -14,7 +13,7 @@ sent : (c : tie.After-did) → c .did .given .0 .0 ≤ 256
 sent c =
     let h = c .before .before .before .handle in
     let e : h .result .reply ≡ Sent (c .did .given .0 .0) = cc in
-    replies-sealed .long _ _ _ _ (ap (λ (x : Handled). x .reply) (sym (h .ensures .0)) ∙ e)
+    reply-long _ _ _ (h .ensures .0) e
 
 text-requires : tie.Need-text-requires
 text-requires c κs = search needs
@@ -46,14 +45,23 @@ text-requires-3 c κs = search needs
 returns : tie.Need-returns
 returns c = search needs
 
+slice-aggregate-text-3 : tie.Need-slice-aggregate-text-3
+slice-aggregate-text-3 c = search needs
+
+text-requires-4 : tie.Need-text-requires-4
+text-requires-4 c κs = search needs
+
 array-share-prefix-buffer : tie.Need-array-share-prefix-buffer
-array-share-prefix-buffer c = omega (arith, sent (c .before))
+array-share-prefix-buffer c = omega (arith, sent (c .before .before))
 
-slice-aggregate-reply : tie.Need-slice-aggregate-reply
-slice-aggregate-reply c = sym (length-take-le _ _ (omega (arith, sent (c .before .before))))
+slice-aggregate-bytes : tie.Need-slice-aggregate-bytes
+slice-aggregate-bytes c = sym (length-take-le _ _ (omega (arith, sent (c .before .before .before))))
 
-reply-requires : tie.Need-reply-requires
-reply-requires c κs = search needs
+bytes-requires-2 : tie.Need-bytes-requires-2
+bytes-requires-2 c κs = search needs
+
+end-requires : tie.Need-end-requires
+end-requires c κs = search needs
 
 returns-2 : tie.Need-returns-2
 returns-2 c = search needs
@@ -72,7 +80,10 @@ ask-spec =
     slice-aggregate-text-2
     text-requires-3
     returns
+    slice-aggregate-text-3
+    text-requires-4
     array-share-prefix-buffer
-    slice-aggregate-reply
-    reply-requires
+    slice-aggregate-bytes
+    bytes-requires-2
+    end-requires
     returns-2)
