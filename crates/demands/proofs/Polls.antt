@@ -38,7 +38,6 @@ use Rattle.registers.specs.Shown.{shownOf}
 use Rattle.registers.proofs.Widths.{Shows, in-room, typed-shows}
 use Rattle.reading.specs.declared.Answer.the-variants.{Reading, Error, Refused}
 use Rattle.reading.specs.Readings.{readingOf}
-use Rattle.reading.proofs.Wide.{passed}
 use Rattle.board.specs.Reads.{itemsSent}
 use Rattle.board.specs.Board.{Outcome}
 use Rattle.board.specs.Answers.{Answers}
@@ -164,7 +163,7 @@ module _ (m : Meter) (request b : List ℕ) (meets : Meets m request b) (a : Ask
 
     fitting-words : Shows m (it .quantity) → shownOf m (it .quantity) < 65536 ^ it .words
     fitting-words fit =
-        let room = leb-true (roomOf it) (2 * it .words) (passed _ (every-at (λ (x : Item). leb (roomOf x) (2 * x .words)) directory directory-roomy (a .first + index) known)) in
+        let room = leb-true (roomOf it) (2 * it .words) (every-at (λ (x : Item). leb (roomOf x) (2 * x .words)) directory directory-roomy (a .first + index) known) in
         let narrow = ruled-narrow directory directory-ruled (a .first + index) known in
         rw (sym (two-bytes (it .words) (narrow .few))) (lt-of-lt-of-le (in-room (a .first + index) known (fit .fits)) (pow-le-pow-right (omega arith) room))
 

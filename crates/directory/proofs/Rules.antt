@@ -1,6 +1,5 @@
 -- The tests computed over the whole table, and the laws over any directory that turn them into the rule at each item.
 use mathlib.Core.Path.{_≡_, refl}
-use mathlib.Core.Bool.{Bool, true, false}
 use lib.Dec.{T}
 use lib.ListN.{length}
 use Rattle.directory.specs.Table.{directory}
@@ -22,10 +21,6 @@ directory-meant : T (every meant directory)
 unfolding every directory
 directory-meant = tt
 
-passes : (b : Bool) → T b → b ≡ true
-passes true t = refl
-passes false t = absurd t
-
 directory-count : length directory ≡ 142
 unfolding directory
 directory-count = refl
@@ -34,8 +29,8 @@ pub directory-rules : DirectoryRules
 directory-rules = record {
   count = directory-count;
   apart = apart (ruled-ascends directory directory-ruled);
-  shapes = λ i h. passes _ (every-at shaped directory directory-shaped i h);
-  meanings = λ i h. passes _ (every-at meant directory directory-meant i h);
+  shapes = every-at shaped directory directory-shaped;
+  meanings = every-at meant directory directory-meant;
   found = λ i h. found-here (ruled-ascends directory directory-ruled) _ i h refl;
   starts = found-starts directory;
 }
