@@ -6,14 +6,14 @@ use Prim.Native.Nat.{ℕ, zero, suc, _+_, _*_, _^_, _≤_, _<_}
 use native.Mathlib.Nat.{lt-of-lt-of-le, pow-le-pow-right}
 use native.Mathlib.Omega.{arith}
 use lib.Dec.{T, leb, eqb}
-use lib.ListN.{length, getD, take, drop, length-append}
+use lib.ListN.{length, getD, take, drop}
 use borrow.Author.Tests.{leb-true, eqb-true, eqb-false, eq-eqb, ne-eqb, le-ltb, not-true}
 use Rattle.refusal.specs.declared.ErrorCode.{ErrorCode}
 use Rattle.refusal.specs.declared.ErrorCode.the-variants.{Function}
 use Rattle.refusal.specs.declared.Refusal.the-variants.{NotARead, IndexPastItems}
 use Rattle.refusal.specs.Numbers.{errorNumber}
 use Rattle.crc.specs.Crc.{crcOf, onLine}
-use Rattle.crc.proofs.Laws.{intact-is-sealed}
+use Rattle.crc.proofs.Laws.{length-sealed, intact-is-sealed}
 use Rattle.words.specs.Words.{sent, valueAt}
 use Rattle.words.proofs.Laws.{read-back}
 use Rattle.ratio.specs.declared.Ratios.{Ratios}
@@ -124,7 +124,7 @@ module _ (m : Meter) (request b : List ℕ) (meets : Meets m request b) (a : Ask
       let sends = run-sends .sends directory (startOf request) (wordNumber request) (a .first) (a .count) directory-ruled (q .run) in
       let words = itemsSent m its in
       let bs = addressOf request ∷ functionOf request ∷ 2 * wordNumber request ∷ words in
-      length-append bs (onLine (crcOf bs)) ∙ omega (arith, length-items m its, sends)
+      length-sealed bs ∙ omega (arith, length-items m its, sends)
 
   ratios : ratiosOk (m .ratios) ≡ true
   ratios = meter-parts m (meets .within) .ratios

@@ -6,7 +6,7 @@ use Prim.Native.Nat.{ℕ, _+_, _≤_, _<_}
 use native.Mathlib.Numerals.{add-one}
 use native.Mathlib.Nat.{zero-add}
 use native.Mathlib.Omega.{arith}
-use lib.ListN.{length, getD, set, take, drop, drop-of-length-le, length-append}
+use lib.ListN.{length, getD, set, take, drop, drop-of-length-le}
 use lib.Seq.{sets, sets-eq, length-sets, take-at, drop-cons}
 use borrow.Author.Tests.{le-leb}
 use Rattle.words.proofs.Laws.{sets-append}
@@ -31,6 +31,3 @@ seals b bs n room now after e h s p =
     let front : take n now ≡ bs = ap (take n) (s ∙ sets-front b bs (omega arith)) ∙ take-at bs _ n e in
     let behind : 0 + length bs ≡ n = omega arith in
     p .bytes ∙ rw (le-leb (n + 2) (length now) long, front, s) (sym (sets-append b 0 bs (onLine (crcOf bs)) ∙ rw behind refl))
-
-pub length-sealed : (bs : List ℕ) (n : ℕ) → length bs ≡ n → n + 2 ≡ length (sealed bs)
-length-sealed bs n e = sym (length-append bs (onLine (crcOf bs)) ∙ omega arith)

@@ -6,6 +6,7 @@ use native.Mathlib.Omega.{arith}
 use lib.ListN.{length, length-set}
 use lib.Seq.{sets, length-sets}
 use borrow.Author.Needs.{needs}
+use Rattle.crc.proofs.Laws.{length-sealed}
 use Rattle.directory.specs.declared.Span.the-variants.{Items}
 use Rattle.directory.specs.Table.{directory}
 use Rattle.directory.specs.Run.{runItems, wordsOf}
@@ -13,7 +14,7 @@ use Rattle.directory.proofs.Rules.{directory-ruled}
 use Rattle.directory.proofs.Sends.{run-sends}
 use Rattle.modbus.specs.Frame.{addressOf, functionOf, wordNumber}
 use Rattle.modbus.proofs.Judged.{Asks, asks}
-use Rattle.modbus.proofs.Stores.{seals, length-sealed}
+use Rattle.modbus.proofs.Stores.{seals}
 use Rattle.board.specs.Reads.{itemsSent, readBytes}
 use Rattle.board.proofs.Sent.{length-items}
 use Rattle.board.proofs.reads.put_data.Statement.{statement}
@@ -93,7 +94,7 @@ returns : tie.Need-returns
 returns c =
     let p = c .before .before .before .before .before .before in
     let s = start p in
-    (length-sealed (bytes s) (p .put-items .result) (long p), seals (s .args .buffer .now) (bytes s) (p .put-items .result) _ _ _ (long p) (room p) (stored p) (c .before .before .put .ensures))
+    (omega (arith, long p, length-sealed (bytes s)), seals (s .args .buffer .now) (bytes s) (p .put-items .result) _ _ _ (long p) (room p) (stored p) (c .before .before .put .ensures))
 
 same-length : tie.Need-same-length
 same-length c =
