@@ -18,13 +18,11 @@ use Rattle.crc.proofs.Laws.{length-sealed, intact-is-sealed}
 use Rattle.directory.specs.declared.Span.the-variants.{Error}
 use Rattle.directory.specs.Table.{directory}
 use Rattle.directory.specs.Run.{runItems}
-use Rattle.directory.proofs.Rules.{directory-ruled}
-use Rattle.directory.proofs.Sends.{run-sends}
 use Rattle.modbus.specs.declared.Verdict.the-variants.{Wrong}
 use Rattle.modbus.specs.Frame.{addressOf, functionOf, wordNumber, isRead, isWrite}
 use Rattle.modbus.specs.Replies.{errorReply, echoReply, dataReply}
 use Rattle.modbus.proofs.Frames.{shaped-length}
-use Rattle.modbus.proofs.Judged.{asks}
+use Rattle.modbus.proofs.Judged.{legal-read}
 use Rattle.modbus.proofs.Stores.{sets-front}
 use Rattle.meter.specs.declared.Meter.{Meter}
 use Rattle.board.specs.declared.Reply.the-variants.{Sent}
@@ -65,11 +63,10 @@ pub gives-long : (m : Meter) (frame bytes : List ℕ) (n : Meter) → Gives m fr
 gives-long m frame bytes n (other r w e k) = rw e (omega arith)
 gives-long m frame bytes n (misread code r s e k) = rw e (omega arith)
 gives-long m frame bytes n (shows first count r s e k) =
-    let a = asks directory frame first count s in
+    let a = legal-read s in
     let its = runItems directory first count in
-    let sends = run-sends .sends directory _ _ first count directory-ruled (a .run) in
     let bs = addressOf frame ∷ functionOf frame ∷ 2 * wordNumber frame ∷ itemsSent m its in
-    rw e (omega (arith, length-sealed bs, length-items m its, sends, a .most))
+    rw e (omega (arith, length-sealed bs, length-items m its, a .sends, a .most))
 gives-long m frame bytes n (miswritten code w v e k) = rw e (omega arith)
 gives-long m frame bytes n (stores w v e k) =
     let six : length (take 6 frame) ≤ 6 = rw (length-take 6 frame) (min-le-left 6 (length frame)) in
@@ -146,4 +143,4 @@ faults m frame bytes n code (shows first count r s e k) h =
     not-data frame (itemsSent m (runItems directory first count)) code (sym e ∙ h)
 faults m frame bytes n code (miswritten c w v e k) h = bad-write (w, v ∙ ap Wrong (one-code frame c code (sym e ∙ h)))
 faults m frame bytes n code (stores w v e k) h =
-    not-echo frame code (omega (arith, shaped-length 0 frame (write-when .legal m frame .0 v .0) .0)) (sym e ∙ h)
+    not-echo frame code (omega (arith, shaped-length frame (write-when .legal m frame .0 v .0) .0)) (sym e ∙ h)

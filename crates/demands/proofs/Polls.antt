@@ -25,11 +25,10 @@ use Rattle.directory.specs.Table.{directory}
 use Rattle.directory.specs.Run.{runItems}
 use Rattle.directory.proofs.Order.{every-at, ruled-narrow}
 use Rattle.directory.proofs.Rules.{directory-ruled}
-use Rattle.directory.proofs.Sends.{run-sends}
-use Rattle.modbus.specs.Frame.{addressOf, functionOf, wordNumber, startOf, isRead, isWrite, silence}
+use Rattle.modbus.specs.Frame.{addressOf, functionOf, wordNumber, isRead, isWrite, silence}
 use Rattle.modbus.specs.Replies.{dataReply, errorReply, echoReply}
 use Rattle.modbus.proofs.Frames.{shaped-length}
-use Rattle.modbus.proofs.Judged.{asks}
+use Rattle.modbus.proofs.Judged.{legal-read}
 use Rattle.meter.specs.declared.Meter.{Meter}
 use Rattle.meter.specs.Meters.{meterT}
 use Rattle.meter.proofs.Parts.{meter-parts}
@@ -120,11 +119,8 @@ module _ (m : Meter) (request b : List ℕ) (meets : Meets m request b) (a : Ask
 
   long : length reply ≡ 5 + 2 * wordNumber request
   long =
-      let q = asks directory request (a .first) (a .count) (a .items) in
-      let sends = run-sends .sends directory (startOf request) (wordNumber request) (a .first) (a .count) directory-ruled (q .run) in
-      let words = itemsSent m its in
-      let bs = addressOf request ∷ functionOf request ∷ 2 * wordNumber request ∷ words in
-      length-sealed bs ∙ omega (arith, length-items m its, sends)
+      let bs = addressOf request ∷ functionOf request ∷ 2 * wordNumber request ∷ itemsSent m its in
+      length-sealed bs ∙ omega (arith, length-items m its, legal-read (a .items) .sends)
 
   ratios : ratiosOk (m .ratios) ≡ true
   ratios = meter-parts m (meets .within) .ratios
@@ -135,13 +131,12 @@ module _ (m : Meter) (request b : List ℕ) (meets : Meets m request b) (a : Ask
 
   pub fits : Fits request reply (m .ratios)
   fits =
-      let q = asks directory request (a .first) (a .count) (a .items) in
       let other : isReadError reply ≡ false = rw function refl in
       let same : isRead reply ≡ true = rw function refl in
       record {
         sound = record {
           asked = record { ratios = ratios; asks = a };
-          long = simp (le-ltb (length reply) 5 (omega (arith, long)), le-ltb 256 (length reply) (omega (arith, long, q .most)));
+          long = simp (le-ltb (length reply) 5 (omega (arith, long)), le-ltb 256 (length reply) (omega (arith, long, legal-read (a .items) .most)));
           whole = gives-whole m request reply m gives;
           own = simp (eq-eqb (addressOf request) (addressOf request) refl, same);
         };
@@ -156,7 +151,7 @@ module _ (m : Meter) (request b : List ℕ) (meets : Meets m request b) (a : Ask
     it = itemAt a index
 
     inside : a .first + a .count ≤ length directory
-    inside = run-sends .inside directory (startOf request) (wordNumber request) (a .first) (a .count) directory-ruled (asks directory request (a .first) (a .count) (a .items) .run)
+    inside = legal-read (a .items) .inside
 
     known : a .first + index < length directory
     known = omega (arith, inside, below)
@@ -257,7 +252,7 @@ module _ (m : Meter) (request b : List ℕ) (meets : Meets m request b) where
       let loud : silence (addressOf request) request ≡ false = rw (sym (meets .own)) (ans .heeds .heard) in
       record { hears = heard-so request (ans .own) r loud; first = first; count = count; items = s }
   from-data bytes n ans h (miswritten code w v e k) = no-error request bytes code e h
-  from-data bytes n ans h (stores w v e k) = no-echo request bytes (omega (arith, shaped-length 0 request (write-when .legal m request .0 v .0) .0)) w e h
+  from-data bytes n ans h (stores w v e k) = no-echo request bytes (omega (arith, shaped-length request (write-when .legal m request .0 v .0) .0)) w e h
 
   from-reply : isRead (replyTo m request b) ≡ true → View m request b → Asks request
   from-reply h (out w e) = absurd (false≢true (sym w ∙ meets .within))

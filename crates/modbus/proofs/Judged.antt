@@ -3,7 +3,7 @@ use mathlib.Core.Path.{_≡_, refl, sym}
 use mathlib.Core.Logic.{_↔_, _⊎_, inl, inr}
 use mathlib.Core.Bool.{Bool, true, false, not, cond, false≢true}
 use mathlib.Core.List.{List}
-use Prim.Native.Nat.{ℕ, _≤_}
+use Prim.Native.Nat.{ℕ, _+_, _≤_}
 use native.Mathlib.Omega.{arith}
 use lib.Dec.{ltb, eqb}
 use lib.ListN.{length}
@@ -12,8 +12,11 @@ use Rattle.refusal.specs.declared.ErrorCode.the-variants.{Function, Address, Da
 use Rattle.directory.specs.declared.Item.{Item}
 use Rattle.directory.specs.declared.Span.{Span}
 use Rattle.directory.specs.declared.Span.the-variants.{Items, Error}
-use Rattle.directory.specs.Run.{runIn}
+use Rattle.directory.specs.Table.{directory}
+use Rattle.directory.specs.Run.{runIn, runItems, wordsOf}
 use Rattle.directory.proofs.Errors.{run-sound}
+use Rattle.directory.proofs.Rules.{directory-ruled}
+use Rattle.directory.proofs.Sends.{run-sends}
 use Rattle.modbus.specs.Frame.{startOf, wordNumber}
 use Rattle.modbus.specs.Read.{numberWrong, readIn, ReadWhen}
 use Rattle.modbus.proofs.Frames.{neither}
@@ -87,14 +90,20 @@ read-when =
       never = λ dir frame h. run-sound dir (startOf frame) (wordNumber frame) (ran dir frame (Error Function) (λ e. data-function e) .0 h .2);
     }
 
--- a read that is answered with data: its length, the most words it asks for, and its run
-pub record Asks (dir : List Item) (frame : List ℕ) (first count : ℕ) : Type 0 where
+-- a read that is answered with data: its length, the most words it asks for; its items stand in the directory and send just those
+pub record LegalRead (frame : List ℕ) (first count : ℕ) : Type 0 where
   pub long : length frame ≡ 8
   pub most : wordNumber frame ≤ 120
-  pub run : runIn dir (startOf frame) (wordNumber frame) ≡ Items first count
+  pub inside : first + count ≤ length directory
+  pub sends : wordsOf (runItems directory first count) ≡ wordNumber frame
 
-pub asks : (dir : List Item) (frame : List ℕ) (first count : ℕ) → readIn dir frame ≡ Items first count → Asks dir frame first count
-asks dir frame first count e =
-    let t = read-when .items dir frame first count .0 e in
+pub legal-read : {frame : List ℕ} {first count : ℕ} → readIn directory frame ≡ Items first count → LegalRead frame first count
+legal-read {frame} {first} {count} e =
+    let t = read-when .items directory frame first count .0 e in
     let n = neither (ltb (wordNumber frame) 1) (ltb 120 (wordNumber frame)) (t .1) in
-    record { long = t .0; most = ltb-false 120 (wordNumber frame) (n .1); run = t .2 }
+    record {
+      long = t .0;
+      most = ltb-false 120 (wordNumber frame) (n .1);
+      inside = run-sends .inside directory _ _ first count directory-ruled (t .2);
+      sends = run-sends .sends directory _ _ first count directory-ruled (t .2);
+    }
