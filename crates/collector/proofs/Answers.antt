@@ -22,6 +22,7 @@ use Rattle.directory.specs.declared.Span.{Span}
 use Rattle.directory.specs.declared.Span.the-variants as span
 use Rattle.directory.specs.Table.{directory}
 use Rattle.directory.specs.Run.{runItems}
+use Rattle.directory.proofs.Errors.{no-run}
 use Rattle.modbus.specs.Frame.{addressOf}
 use Rattle.modbus.specs.Read.{readIn}
 use Rattle.modbus.proofs.Frames.{neither}
@@ -132,9 +133,6 @@ module _ (request reply : List ℕ) (r : Ratios) (index : ℕ) where
 
 -- ---- every call comes to one of them
 
-no-items : {code : ErrorCode} {first count : ℕ} → span.Error code ≡ span.Items first count → ⊥
-no-items e = let z : _≡_ {A = ℕ} 0 1 = cc in omega arith
-
 pub data Outcome (request reply : List ℕ) (r : Ratios) (index : ℕ) : Type 0 where
   refuses : (reason : Refusal) → Row reason request reply r index → Outcome request reply r index
   errors : (code : ErrorCode) → Errs request reply r code → Outcome request reply r index
@@ -216,7 +214,7 @@ module _ (request reply : List ℕ) (r : Ratios) (index : ℕ) where
       by : (o h : Bool) (s : Span) → ratiosOk r ≡ o → heard request ≡ h → readIn directory request ≡ s → Comes
       by false h s x y z = refuses RatioOutOfLimits x
       by true false s x y z = refuses NotARead (x, λ asks. false≢true (sym y ∙ asks .hears))
-      by true true (span.Error code) x y z = refuses NotARead (x, λ asks. no-items (sym z ∙ asks .items))
+      by true true (span.Error code) x y z = refuses NotARead (x, λ asks. no-run code z (asks .items))
       by true true (span.Items first count) x y z = at-reply (record { ratios = x; asks = record { hears = y; first = first; count = count; items = z } })
 
 -- ---- and to no two

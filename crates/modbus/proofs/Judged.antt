@@ -14,7 +14,7 @@ use Rattle.directory.specs.declared.Span.{Span}
 use Rattle.directory.specs.declared.Span.the-variants.{Items, Error}
 use Rattle.directory.specs.Table.{directory}
 use Rattle.directory.specs.Run.{runIn, runItems, wordsOf}
-use Rattle.directory.proofs.Errors.{run-sound}
+use Rattle.directory.proofs.Errors.{no-run, data-sound, run-sound}
 use Rattle.directory.proofs.Rules.{directory-ruled}
 use Rattle.directory.proofs.Sends.{run-sends}
 use Rattle.modbus.specs.Frame.{startOf, wordNumber}
@@ -25,14 +25,8 @@ use Rattle.modbus.proofs.Frames.{neither}
 abbrev judged : Bool → Bool → Span → Span
 judged t w run = cond (not t) (Error Data) (cond w (Error Data) run)
 
-data-address : {A : Type 0} → Error Data ≡ Error Address → A
-data-address e = let z : _≡_ {A = ℕ} 0 1 = cc in let y : ⊥ = omega arith in absurd y
-
-data-function : {A : Type 0} → Error Data ≡ Error Function → A
-data-function e = let z : _≡_ {A = ℕ} 0 1 = cc in let y : ⊥ = omega arith in absurd y
-
-no-data : {A : Type 0} {first count : ℕ} → Error Data ≡ Items first count → A
-no-data e = let z : _≡_ {A = ℕ} 0 1 = cc in let y : ⊥ = omega arith in absurd y
+data-address : Error Data ≡ Error Address → ⊥
+data-address e = let z : _≡_ {A = ℕ} 0 1 = cc in omega arith
 
 -- a span that is not error 03 comes from the run
 from-run : (t w : Bool) (run span : Span) → (Error Data ≡ span → ⊥) → (judged t w run ≡ span) ↔ ((t ≡ true) × (w ≡ false) × (run ≡ span))
@@ -84,10 +78,10 @@ module _ (dir : List Item) (frame : List ℕ) where
 pub read-when : ReadWhen
 read-when =
     record {
-      error-02 = λ dir frame. ran dir frame (Error Address) (λ e. data-address e);
+      error-02 = λ dir frame. ran dir frame (Error Address) data-address;
       error-03 = wrong-data;
-      items = λ dir frame first count. ran dir frame (Items first count) (λ e. no-data e);
-      never = λ dir frame h. run-sound dir (startOf frame) (wordNumber frame) (ran dir frame (Error Function) (λ e. data-function e) .0 h .2);
+      items = λ dir frame first count. ran dir frame (Items first count) (no-run Data refl);
+      never = λ dir frame h. run-sound dir (startOf frame) (wordNumber frame) (ran dir frame (Error Function) data-sound .0 h .2);
     }
 
 -- a read that is answered with data: its length, the most words it asks for; its items stand in the directory and send just those
