@@ -1,7 +1,7 @@
 -- The tests computed over the whole table, and the laws over any directory that turn them into the rule at each item.
 use mathlib.Core.Path.{_≡_, refl, ap, _∙_}
 use mathlib.Core.List.{List}
-use Prim.Native.Nat.{ℕ, _<_}
+use Prim.Native.Nat.{ℕ, _*_, _≤_, _<_}
 use native.Mathlib.Omega.{arith}
 use lib.Dec.{T}
 use lib.ListN.{length, getD, take}
@@ -11,6 +11,7 @@ use Rattle.directory.specs.Item.{none, items}
 use Rattle.directory.specs.Table.{directory}
 use Rattle.directory.specs.Order.{ascends, every, ruled, shaped, meant}
 use Rattle.directory.specs.Rules.{DirectoryRules, placesOf, ThreeTables}
+use Rattle.directory.proofs.Flat.{items-length}
 use Rattle.directory.proofs.Order.{every-at, apart, Narrow, ruled-ascends, ruled-narrow}
 use Rattle.directory.proofs.Finds.{found-here, found-starts}
 
@@ -41,8 +42,12 @@ directory-rules = record {
   starts = found-starts directory;
 }
 
--- a flat table that is the directory: the whole of it is seen, and an item of it is the directory's, of one word or two
+-- a flat table that is the directory: it has four numbers for each item, the whole of it is seen, and an item of it is the
+-- directory's, of one word or two
 module _ (t : List ℕ) (e : items t ≡ directory) where
+  pub directory-room : 4 * length directory ≤ length t
+  directory-room = omega (arith, items-length t, ap length e)
+
   pub directory-whole : take 142 (items t) ≡ directory
   directory-whole = ap (take 142) e ∙ take-all 142 directory (omega (arith, directory-count))
 

@@ -1,11 +1,12 @@
 -- The judgement of the read is the definition's, over the whole table.
 use mathlib.Core.Path.{_≡_, sym, ap, _∙_}
+use native.Mathlib.Omega.{arith}
 use mathlib.Core.List.{List}
 use Rattle.directory.specs.declared.Item.{Item}
 use Rattle.directory.specs.declared.Span.{Span}
 use Rattle.directory.specs.declared.Span.the-variants.{Items, Error}
 use Rattle.directory.specs.Table.{directory}
-use Rattle.directory.proofs.Rules.{directory-ruled, directory-whole}
+use Rattle.directory.proofs.Rules.{directory-ruled, directory-rules, directory-room, directory-whole}
 use Rattle.modbus.specs.Read.{readIn}
 use Rattle.reading.specs.declared.Answer.{Answer}
 use Rattle.collector.specs.Collector.{onItems, replyOf}
@@ -16,7 +17,7 @@ use Rattle.collector.proofs.along.Tie as tie
 judged : (r : tie.After-read-in) → r .read-in .result ≡ readIn directory (r .before .before .before .before .args .request .now)
 judged r =
     let s = r .before .before .before .before in
-    r .read-in .ensures ∙ ap (λ (dir : List Item). readIn dir (s .args .request .now)) (directory-whole (s .args .t .now) (s .pre .1))
+    r .read-in .ensures ∙ ap (λ (dir : List Item). readIn dir (s .args .request .now)) (directory-whole (s .args .t .now) (s .pre))
 
 -- how a read that asks for items goes on
 abbrev going : tie.Start → List Item → Answer
@@ -25,7 +26,7 @@ going s its = replyOf (s .args .tenths) (s .args .request .now) (s .args .reply 
 read-in-requires : tie.Need-read-in-requires
 read-in-requires c κs =
     let s = c .before .before .before in
-    (s .pre .0, rw (s .pre .1) directory-ruled)
+    (omega (arith, directory-room (s .args .t .now) (s .pre), directory-rules .count), rw (s .pre) directory-ruled)
 
 enum-known-span : tie.Need-enum-known-span
 enum-known-span c = search needs

@@ -8,7 +8,7 @@ use Rattle.directory.specs.Item.{none}
 use Rattle.directory.specs.Table.{directory}
 use Rattle.directory.specs.Run.{wordsOf}
 use Rattle.directory.proofs.Order.{Narrow}
-use Rattle.directory.proofs.Rules.{directory-rules, directory-item}
+use Rattle.directory.proofs.Rules.{directory-rules, directory-room, directory-item}
 use Rattle.collector.proofs.Places.{place-on}
 use borrow.Author.Needs.{needs}
 use Rattle.collector.proofs.place.Statement.{statement}
@@ -30,13 +30,13 @@ add-item-at c = omega (arith, directory-rules .count, c .before .before .before 
 item-at-requires : tie.Need-item-at-requires Inv-loop μ-loop
 item-at-requires c κs =
     let s = c .before .before .before in
-    omega (arith, s .pre .0 .0, s .pre .1, directory-rules .count)
+    omega (arith, directory-room (s .args .t .now) (s .pre .0), s .pre .1)
 
 -- it is the directory's, and sends one word or two
 found : (r : tie.After-item-at Inv-loop μ-loop) → (r .item-at .result ≡ getD directory (r .before .before .before .before .args .first + r .before .before .loop .i) none) × Narrow (r .item-at .result)
 found r =
     let s = r .before .before .before .before in
-    directory-item (s .args .t .now) (s .pre .0 .1) (s .args .first + r .before .before .loop .i) (omega (arith, s .pre .1)) (r .item-at .ensures)
+    directory-item (s .args .t .now) (s .pre .0) (s .args .first + r .before .before .loop .i) (omega (arith, s .pre .1)) (r .item-at .ensures)
 
 cast-at : tie.Need-cast-at Inv-loop μ-loop
 cast-at c = search needs

@@ -2,13 +2,14 @@
 use mathlib.Core.Path.{_≡_, ap, _∙_}
 use mathlib.Core.List.{List}
 use Prim.Native.Nat.{ℕ}
+use native.Mathlib.Omega.{arith}
 use lib.ListN.{length}
 use lib.Seq.{sets}
 use Rattle.directory.specs.declared.Span.{Span}
 use Rattle.directory.specs.declared.Span.the-variants.{Items, Error}
 use Rattle.directory.specs.declared.Item.{Item}
 use Rattle.directory.specs.Table.{directory}
-use Rattle.directory.proofs.Rules.{directory-ruled, directory-whole}
+use Rattle.directory.proofs.Rules.{directory-ruled, directory-rules, directory-room, directory-whole}
 use Rattle.modbus.specs.Read.{readIn}
 use Rattle.meter.specs.declared.Meter.{Meter}
 use Rattle.board.specs.Reads.{readBytes, readReply}
@@ -23,12 +24,12 @@ replied m frame buffer span e h = rw e h
 judged : (r : tie.After-read-in) → r .read-in .result ≡ readIn directory (r .before .before .before .before .args .frame .now)
 judged r =
     let s = r .before .before .before .before in
-    r .read-in .ensures ∙ ap (λ (dir : List Item). readIn dir (s .args .frame .now)) (directory-whole (s .args .t .now) (s .pre .0 .1))
+    r .read-in .ensures ∙ ap (λ (dir : List Item). readIn dir (s .args .frame .now)) (directory-whole (s .args .t .now) (s .pre .0))
 
 read-in-requires : tie.Need-read-in-requires
 read-in-requires c κs =
     let s = c .before .before .before in
-    (s .pre .0 .0, rw (s .pre .0 .1) directory-ruled)
+    (omega (arith, directory-room (s .args .t .now) (s .pre .0), directory-rules .count), rw (s .pre .0) directory-ruled)
 
 enum-known-code : tie.Need-enum-known-code
 enum-known-code c = search needs

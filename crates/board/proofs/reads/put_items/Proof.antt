@@ -12,7 +12,7 @@ use Rattle.directory.specs.Item.{none}
 use Rattle.directory.specs.Table.{directory}
 use Rattle.directory.specs.Run.{runItems, wordsOf}
 use Rattle.directory.proofs.Order.{Narrow}
-use Rattle.directory.proofs.Rules.{directory-rules, directory-item}
+use Rattle.directory.proofs.Rules.{directory-rules, directory-room, directory-item}
 use Rattle.registers.specs.Shown.{shownOf}
 use Rattle.board.specs.Reads.{itemsSent}
 use Rattle.board.proofs.Sent.{left, left-all, left-none, words-on, sent-on}
@@ -40,13 +40,13 @@ add-item-at c = omega (arith, directory-rules .count, c .before .before .before 
 item-at-requires : tie.Need-item-at-requires Inv-loop μ-loop
 item-at-requires c κs =
     let s = c .before .before .before .before in
-    omega (arith, s .pre .0 .0, s .pre .1 .1 .0, directory-rules .count)
+    omega (arith, directory-room (s .args .t .now) (s .pre .0), s .pre .1 .1 .0)
 
 -- it is the directory's, and sends one word or two
 found : (r : tie.After-item-at Inv-loop μ-loop) → (r .item-at .result ≡ getD directory (r .before .before .before .before .before .args .first + r .before .before .loop .i) none) × Narrow (r .item-at .result)
 found r =
     let s = r .before .before .before .before .before in
-    directory-item (s .args .t .now) (s .pre .0 .1) (s .args .first + r .before .before .loop .i) (omega (arith, s .pre .1 .1 .0)) (r .item-at .ensures)
+    directory-item (s .args .t .now) (s .pre .0) (s .args .first + r .before .before .loop .i) (omega (arith, s .pre .1 .1 .0)) (r .item-at .ensures)
 
 -- and its words come off those that are left
 passed : (r : tie.After-item-at Inv-loop μ-loop) → wordsOf (left directory (r .before .before .before .before .before .args .first) (r .before .before .before .before .before .args .count) (r .before .before .loop .i)) ≡ r .item-at .result .words + wordsOf (left directory (r .before .before .before .before .before .args .first) (r .before .before .before .before .before .args .count) (r .before .before .loop .i + 1))
