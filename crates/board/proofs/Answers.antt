@@ -20,6 +20,7 @@ use Rattle.modbus.specs.Replies.{errorReply}
 use Rattle.modbus.proofs.Judged.{read-when}
 use Rattle.meter.specs.declared.Meter.{Meter}
 use Rattle.meter.specs.Meters.{meterOk}
+use Rattle.board.specs.declared.Handled.{Handled}
 use Rattle.board.specs.declared.Reply.{Reply}
 use Rattle.board.specs.declared.Reply.the-variants.{Silent, Sent, Refused}
 use Rattle.store.specs.Writes.{storedOf}
@@ -216,6 +217,10 @@ replies-sealed =
       long = λ m frame b n h. let s = sent m frame b (view m frame b) n h in omega (arith, gives-long m frame (s .bytes) (s .next) (s .gives), s .long);
       whole = λ m frame b n h. let s = sent m frame b (view m frame b) n h in ap intact (front m frame b n s) ∙ gives-whole m frame (s .bytes) (s .next) (s .gives);
     }
+
+-- the reply that was answered with such an outcome
+pub reply-long : (m : Meter) (frame b : List ℕ) {h : Handled} {n : ℕ} → h ≡ boardOf m frame b .handled → h .reply ≡ Sent n → n ≤ 256
+reply-long m frame b is e = replies-sealed .long m frame b _ (ap (λ (x : Handled). x .reply) (sym is) ∙ e)
 
 -- ---- within limits
 
