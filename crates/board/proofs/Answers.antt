@@ -2,7 +2,7 @@
 use mathlib.Core.Path.{_≡_, refl, sym, ap, _∙_}
 use mathlib.Core.Logic.{_↔_, _⊎_, inl, inr}
 use mathlib.Core.Bool.{true, false, false≢true}
-use mathlib.Core.List.{List, []}
+use mathlib.Core.List.{List}
 use Prim.Native.Nat.{ℕ, _+_, _≤_, _<_}
 use native.Mathlib.Omega.{arith}
 use lib.ListN.{length, take, drop}
@@ -20,6 +20,7 @@ use Rattle.modbus.specs.Replies.{errorReply}
 use Rattle.modbus.proofs.Judged.{read-when}
 use Rattle.meter.specs.declared.Meter.{Meter}
 use Rattle.meter.specs.Meters.{meterOk}
+use Rattle.board.specs.declared.Handled.{Handled}
 use Rattle.board.specs.declared.Reply.{Reply}
 use Rattle.board.specs.declared.Reply.the-variants.{Silent, Sent, Refused}
 use Rattle.store.specs.Writes.{storedOf}
@@ -140,6 +141,17 @@ obeys =
 
 -- ---- what stays as it was
 
+module _ (m : Meter) (frame : List ℕ) where
+  abbrev Kept : Meter → Type 0
+  Kept n = (n ≡ m) ⊎ (Stores m frame × (n ≡ storedOf m frame))
+
+  gives-kept : (bytes : List ℕ) (n : Meter) → Gives m frame bytes n → Kept n
+  gives-kept bytes n (other r w e k) = inl k
+  gives-kept bytes n (misread code r s e k) = inl k
+  gives-kept bytes n (shows first count r s e k) = inl k
+  gives-kept bytes n (miswritten code w v e k) = inl k
+  gives-kept bytes n (stores w v e k) = inr ((w, v), k)
+
 module _ (m : Meter) (frame b : List ℕ) where
   refused : View m frame b → (reason : Refusal) → said (boardOf m frame b) ≡ Refused reason → (boardOf m frame b .handled .meter ≡ m) × (boardOf m frame b .buffer ≡ b)
   refused (out h e) reason r = (ap (λ (o : Outcome). o .handled .meter) e, ap (λ (o : Outcome). o .buffer) e)
@@ -182,22 +194,12 @@ module _ (m : Meter) (frame b : List ℕ) where
     beyond : drop k (boardOf m frame b .buffer) ≡ drop k b
     beyond = rw (s .after, ← s .long) (sent-beyond (s .bytes) b within-buffer)
 
-  abbrev Kept : Meter → Type 0
-  Kept n = (n ≡ m) ⊎ (Stores m frame × (n ≡ storedOf m frame))
-
-  gives-kept : (bytes : List ℕ) (n : Meter) → Gives m frame bytes n → Kept n
-  gives-kept bytes n (other r w e k) = inl k
-  gives-kept bytes n (misread code r s e k) = inl k
-  gives-kept bytes n (shows first count r s e k) = inl k
-  gives-kept bytes n (miswritten code w v e k) = inl k
-  gives-kept bytes n (stores w v e k) = inr ((w, v), k)
-
-  altered : View m frame b → Kept (boardOf m frame b .handled .meter)
+  altered : View m frame b → Kept m frame (boardOf m frame b .handled .meter)
   altered (out h e) = inl (ap (λ (o : Outcome). o .handled .meter) e)
   altered (short h k e) = inl (ap (λ (o : Outcome). o .handled .meter) e)
   altered (unheard h k q e) = inl (ap (λ (o : Outcome). o .handled .meter) e)
-  altered (for-all bytes n h z g e) = rw e (gives-kept bytes n g)
-  altered (for-one bytes n a g e) = rw e (gives-kept bytes n g)
+  altered (for-all bytes n h z g e) = rw e (gives-kept m frame bytes n g)
+  altered (for-one bytes n a g e) = rw e (gives-kept m frame bytes n g)
 
 pub untouched : Untouched
 untouched =
@@ -216,9 +218,13 @@ replies-sealed =
       whole = λ m frame b n h. let s = sent m frame b (view m frame b) n h in ap intact (front m frame b n s) ∙ gives-whole m frame (s .bytes) (s .next) (s .gives);
     }
 
+-- the reply that was answered with such an outcome
+pub reply-long : (m : Meter) (frame b : List ℕ) {h : Handled} {n : ℕ} → h ≡ boardOf m frame b .handled → h .reply ≡ Sent n → n ≤ 256
+reply-long m frame b is e = replies-sealed .long m frame b _ (ap (λ (x : Handled). x .reply) (sym is) ∙ e)
+
 -- ---- within limits
 
-kept-within : (m : Meter) (frame : List ℕ) (n : Meter) → meterOk m ≡ true → Kept m frame [] n → meterOk n ≡ true
+kept-within : (m : Meter) (frame : List ℕ) (n : Meter) → meterOk m ≡ true → Kept m frame n → meterOk n ≡ true
 kept-within m frame n h (inl e) = ap meterOk e ∙ h
 kept-within m frame n h (inr s) = ap meterOk (s .1 ∙ sym (write-when .stored m frame (s .0 .1))) ∙ write-within .write m frame h
 

@@ -6,7 +6,7 @@ use mathlib.Core.List.{List, [], _∷_}
 use Prim.Native.Nat.{ℕ, _+_, _*_, _≤_}
 use native.Mathlib.Nat.{min-le-left}
 use native.Mathlib.Omega.{arith}
-use lib.ListN.{length, getD, take, drop, length-append, length-take, List·getD-append}
+use lib.ListN.{length, getD, take, drop, length-take, List·getD-append}
 use lib.Seq.{sets, take-at, drop-at, getD-take, length-take-le}
 use borrow.Author.Tests.{eq-eqb, ne-eqb, le-ltb}
 use Rattle.refusal.specs.declared.ErrorCode.{ErrorCode}
@@ -14,18 +14,16 @@ use Rattle.refusal.specs.declared.ErrorCode.the-variants.{Function}
 use Rattle.refusal.specs.Numbers.{errorNumber}
 use Rattle.refusal.proofs.Distinct.{one-reason-each}
 use Rattle.crc.specs.Crc.{crcOf, onLine, sealed, intact}
-use Rattle.crc.proofs.Laws.{intact-is-sealed}
+use Rattle.crc.proofs.Laws.{length-sealed, intact-is-sealed}
+use Rattle.words.proofs.Laws.{sets-front}
 use Rattle.directory.specs.declared.Span.the-variants.{Error}
 use Rattle.directory.specs.Table.{directory}
 use Rattle.directory.specs.Run.{runItems}
-use Rattle.directory.proofs.Rules.{directory-ruled}
-use Rattle.directory.proofs.Sends.{run-sends}
 use Rattle.modbus.specs.declared.Verdict.the-variants.{Wrong}
 use Rattle.modbus.specs.Frame.{addressOf, functionOf, wordNumber, isRead, isWrite}
 use Rattle.modbus.specs.Replies.{errorReply, echoReply, dataReply}
 use Rattle.modbus.proofs.Frames.{shaped-length}
-use Rattle.modbus.proofs.Judged.{asks}
-use Rattle.modbus.proofs.Stores.{sets-front}
+use Rattle.modbus.proofs.Judged.{legal-read}
 use Rattle.meter.specs.declared.Meter.{Meter}
 use Rattle.board.specs.declared.Reply.the-variants.{Sent}
 use Rattle.board.specs.Reads.{itemsSent, readBytes}
@@ -61,22 +59,18 @@ module _ (m : Meter) (frame b : List ℕ) where
 
 -- ---- its length and its CRC
 
-length-seal : (bs : List ℕ) → length (sealed bs) ≡ length bs + 2
-length-seal bs = length-append bs (onLine (crcOf bs))
-
 pub gives-long : (m : Meter) (frame bytes : List ℕ) (n : Meter) → Gives m frame bytes n → length bytes ≤ 256
 gives-long m frame bytes n (other r w e k) = rw e (omega arith)
 gives-long m frame bytes n (misread code r s e k) = rw e (omega arith)
 gives-long m frame bytes n (shows first count r s e k) =
-    let a = asks directory frame first count s in
+    let a = legal-read s in
     let its = runItems directory first count in
-    let sends = run-sends .sends directory _ _ first count directory-ruled (a .run) in
     let bs = addressOf frame ∷ functionOf frame ∷ 2 * wordNumber frame ∷ itemsSent m its in
-    rw e (omega (arith, length-seal bs, length-items m its, sends, a .most))
+    rw e (omega (arith, length-sealed bs, length-items m its, a .sends, a .most))
 gives-long m frame bytes n (miswritten code w v e k) = rw e (omega arith)
 gives-long m frame bytes n (stores w v e k) =
     let six : length (take 6 frame) ≤ 6 = rw (length-take 6 frame) (min-le-left 6 (length frame)) in
-    rw e (omega (arith, length-seal (take 6 frame)))
+    rw e (omega (arith, length-sealed (take 6 frame)))
 
 -- bytes with their CRC behind them
 record Sealed (bytes : List ℕ) : Type 0 where
@@ -149,4 +143,4 @@ faults m frame bytes n code (shows first count r s e k) h =
     not-data frame (itemsSent m (runItems directory first count)) code (sym e ∙ h)
 faults m frame bytes n code (miswritten c w v e k) h = bad-write (w, v ∙ ap Wrong (one-code frame c code (sym e ∙ h)))
 faults m frame bytes n code (stores w v e k) h =
-    not-echo frame code (omega (arith, shaped-length 0 frame (write-when .legal m frame .0 v .0) .0)) (sym e ∙ h)
+    not-echo frame code (omega (arith, shaped-length frame (write-when .legal m frame .0 v .0) .0)) (sym e ∙ h)

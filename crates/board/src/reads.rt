@@ -27,9 +27,9 @@ pub(crate) fn read(m: Meter, frame: &[u8], buffer: &mut [u8]) -> usize
     along(&table::TABLE, m, frame, buffer)
 }
 
-// The same with the table lent, four numbers for each of its 142 items: to name the constant is to lay it out anew.
+// The same with the table lent: to name the constant is to lay it out anew.
 fn along(t: &[u16], m: Meter, frame: &[u8], buffer: &mut [u8]) -> usize
-    requires { ⌜ (568 ≤ length (now t)) × (items (now t) ≡ directory) ⌝ }
+    requires { ⌜ items (now t) ≡ directory ⌝ }
     requires { ⌜ meterOk m ≡ true ⌝ }
     requires { ⌜ (2 ≤ length (now frame)) × (functionOf (now frame) < 0x80) ⌝ }
     requires { ⌜ 256 ≤ length (now buffer) ⌝ }
@@ -51,7 +51,7 @@ fn put_data(
     count: usize,
     buffer: &mut [u8],
 ) -> usize
-    requires { ⌜ (568 ≤ length (now t)) × (items (now t) ≡ directory) ⌝ }
+    requires { ⌜ items (now t) ≡ directory ⌝ }
     requires { ⌜ meterOk m ≡ true ⌝ }
     requires { ⌜ readIn directory (now frame) ≡ Items first count ⌝ }
     requires { ⌜ 256 ≤ length (now buffer) ⌝ }
@@ -68,7 +68,7 @@ fn put_data(
 
 // The words of items, behind the first three bytes; answers where they end.
 fn put_items(t: &[u16], m: Meter, first: usize, count: usize, buffer: &mut [u8]) -> usize
-    requires { ⌜ (568 ≤ length (now t)) × (items (now t) ≡ directory) ⌝ }
+    requires { ⌜ items (now t) ≡ directory ⌝ }
     requires { ⌜ meterOk m ≡ true ⌝ }
     requires { ⌜ first + count ≤ length directory ⌝ }
     requires { ⌜ (wordsOf (runItems directory first count) ≤ 120) × (256 ≤ length (now buffer)) ⌝ }

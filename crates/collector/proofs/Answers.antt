@@ -22,12 +22,11 @@ use Rattle.directory.specs.declared.Span.{Span}
 use Rattle.directory.specs.declared.Span.the-variants as span
 use Rattle.directory.specs.Table.{directory}
 use Rattle.directory.specs.Run.{runItems}
-use Rattle.directory.proofs.Rules.{directory-ruled}
-use Rattle.directory.proofs.Sends.{run-sends}
-use Rattle.modbus.specs.Frame.{addressOf, startOf, wordNumber}
+use Rattle.directory.proofs.Errors.{no-run}
+use Rattle.modbus.specs.Frame.{addressOf}
 use Rattle.modbus.specs.Read.{readIn}
 use Rattle.modbus.proofs.Frames.{neither}
-use Rattle.modbus.proofs.Judged.{asks}
+use Rattle.modbus.proofs.Judged.{legal-read}
 use Rattle.reading.specs.declared.Quantity.{Quantity}
 use Rattle.reading.specs.declared.Answer.{Answer}
 use Rattle.reading.specs.declared.Answer.the-variants.{Reading, Error, Refused}
@@ -76,10 +75,6 @@ module _ (request reply : List ℕ) (r : Ratios) (index : ℕ) where
   unfolding collectorOf
   to-reply a = rw (a .ratios, a .asks .hears, a .asks .items) refl
 
-  -- the items of a run stand in the directory
-  run-inside : (a : Asks request) → a .first + a .count ≤ length directory
-  run-inside a = run-sends .inside directory (startOf request) (wordNumber request) (a .first) (a .count) directory-ruled (asks directory request (a .first) (a .count) (a .items) .run)
-
   to-item : (f : Fits request reply r) → answer ≡ itemOf (tOf r) (runItems directory (f .sound .asked .asks .first) (f .sound .asked .asks .count)) reply index
   to-item f =
       let h = f .sound in
@@ -90,7 +85,7 @@ module _ (request reply : List ℕ) (r : Ratios) (index : ℕ) where
       let a = h .fits .sound .asked .asks in
       let its = runItems directory (a .first) (a .count) in
       to-item (h .fits)
-      ∙ item-reads (tOf r) its reply index (omega (arith, h .below, run-length directory (a .first) (a .count) (run-inside a)))
+      ∙ item-reads (tOf r) its reply index (omega (arith, h .below, run-length directory (a .first) (a .count) (legal-read (a .items) .inside)))
       ∙ ap (λ (it : Item). readingOf (tOf r) it (valueAt (it .words) reply (placeOf its index))) (run-at directory (a .first) (a .count) index (h .below))
 
   ratio-row : ratiosOk r ≡ false → answer ≡ Refused RatioOutOfLimits
@@ -117,10 +112,10 @@ module _ (request reply : List ℕ) (r : Ratios) (index : ℕ) where
   row ReplyMisfit (h, inr m) = to-reply (h .asked) ∙ sym (misfit-refused _ _ _ _ _ (h .long) (h .whole) (h .own) (m .0) (m .1))
   row IndexPastItems h =
       let a = h .fits .sound .asked .asks in
-      to-item (h .fits) ∙ sym (item-past _ _ _ _ (omega (arith, h .past, run-length directory (a .first) (a .count) (run-inside a))))
+      to-item (h .fits) ∙ sym (item-past _ _ _ _ (omega (arith, h .past, run-length directory (a .first) (a .count) (legal-read (a .items) .inside))))
   row ValueImpossible h =
       let a = h .holds .fits .sound .asked .asks in
-      to-reading (h .holds) ∙ thirteen-when .refused (tOf r) (a .first + index) (valueIn a reply index) (omega (arith, run-inside a, h .holds .below)) .1 (h .value)
+      to-reading (h .holds) ∙ thirteen-when .refused (tOf r) (a .first + index) (valueIn a reply index) (omega (arith, legal-read (a .items) .inside, h .holds .below)) .1 (h .value)
   row MeterOutOfLimits h = absurd h
   row BufferShort h = absurd h
   row OwnAddressZero h = absurd h
@@ -137,9 +132,6 @@ module _ (request reply : List ℕ) (r : Ratios) (index : ℕ) where
   reading q h = to-reading (h .holds) ∙ h .reading
 
 -- ---- every call comes to one of them
-
-no-items : {code : ErrorCode} {first count : ℕ} → span.Error code ≡ span.Items first count → ⊥
-no-items e = let z : _≡_ {A = ℕ} 0 1 = cc in omega arith
 
 pub data Outcome (request reply : List ℕ) (r : Ratios) (index : ℕ) : Type 0 where
   refuses : (reason : Refusal) → Row reason request reply r index → Outcome request reply r index
@@ -161,7 +153,7 @@ module _ (request reply : List ℕ) (r : Ratios) (index : ℕ) where
 
       by : {k : ℕ} → Entry k (readingOf (tOf r) (itemAt a index) (valueIn a reply index)) → Comes
       by (reads q e k) = tells q (record { holds = h; reading = e })
-      by (refused e) = refuses ValueImpossible (record { holds = h; value = thirteen-when .refused (tOf r) (a .first + index) (valueIn a reply index) (omega (arith, run-inside request reply r index a, h .below)) .0 e })
+      by (refused e) = refuses ValueImpossible (record { holds = h; value = thirteen-when .refused (tOf r) (a .first + index) (valueIn a reply index) (omega (arith, legal-read (a .items) .inside, h .below)) .0 e })
 
   -- 12
   at-index : (f : Fits request reply r) → Comes
@@ -222,7 +214,7 @@ module _ (request reply : List ℕ) (r : Ratios) (index : ℕ) where
       by : (o h : Bool) (s : Span) → ratiosOk r ≡ o → heard request ≡ h → readIn directory request ≡ s → Comes
       by false h s x y z = refuses RatioOutOfLimits x
       by true false s x y z = refuses NotARead (x, λ asks. false≢true (sym y ∙ asks .hears))
-      by true true (span.Error code) x y z = refuses NotARead (x, λ asks. no-items (sym z ∙ asks .items))
+      by true true (span.Error code) x y z = refuses NotARead (x, λ asks. no-run code z (asks .items))
       by true true (span.Items first count) x y z = at-reply (record { ratios = x; asks = record { hears = y; first = first; count = count; items = z } })
 
 -- ---- and to no two

@@ -61,9 +61,9 @@ fn heard(request: &[u8]) -> bool
     !modbus::silence(own, request)
 }
 
-// The rest with the table lent, four numbers for each of its 142 items: to name the constant is to lay it out anew.
+// The rest with the table lent: to name the constant is to lay it out anew.
 fn along(t: &[u16], request: &[u8], reply: &[u8], tenths: u32, index: usize) -> Answer
-    requires { ⌜ (568 ≤ length (now t)) × (items (now t) ≡ directory) ⌝ }
+    requires { ⌜ items (now t) ≡ directory ⌝ }
     ensures { λ r. ⌜ r ≡ onItems (readIn directory (now (request .entry))) (λ its. replyOf tenths (now (request .entry)) (now (reply .entry)) its index) ⌝ }
 {
     let span = modbus::read_in(t, directory::ITEMS, request);
@@ -83,7 +83,7 @@ fn replied(
     count: usize,
     index: usize,
 ) -> Answer
-    requires { ⌜ (568 ≤ length (now t)) × (items (now t) ≡ directory) ⌝ }
+    requires { ⌜ items (now t) ≡ directory ⌝ }
     requires { ⌜ readIn directory (now request) ≡ Items first count ⌝ }
     ensures { λ r. ⌜ r ≡ replyOf tenths (now (request .entry)) (now (reply .entry)) (runItems directory first count) index ⌝ }
 {
@@ -125,7 +125,7 @@ fn error(reply: &[u8]) -> Answer
 }
 
 fn item(t: &[u16], reply: &[u8], tenths: u32, first: usize, count: usize, index: usize) -> Answer
-    requires { ⌜ (568 ≤ length (now t)) × (items (now t) ≡ directory) ⌝ }
+    requires { ⌜ items (now t) ≡ directory ⌝ }
     requires { ⌜ first + count ≤ length directory ⌝ }
     requires { ⌜ 3 + 2 * wordsOf (runItems directory first count) ≤ length (now reply) ⌝ }
     ensures { λ r. ⌜ r ≡ itemOf tenths (runItems directory first count) (now (reply .entry)) index ⌝ }
@@ -146,7 +146,7 @@ fn item(t: &[u16], reply: &[u8], tenths: u32, first: usize, count: usize, index:
 
 // Where the words of the item stand that comes after `index` others.
 fn place(t: &[u16], first: usize, index: usize) -> usize
-    requires { ⌜ (568 ≤ length (now t)) × (items (now t) ≡ directory) ⌝ }
+    requires { ⌜ items (now t) ≡ directory ⌝ }
     requires { ⌜ first + index ≤ length directory ⌝ }
     ensures { λ r. ⌜ r ≡ 3 + 2 * wordsOf (take index (drop first directory)) ⌝ }
 {

@@ -13,12 +13,15 @@ use lib.Seq.{sets-eq, length-take-le, drop-cons, take-at, drop-at, getD-at, getD
 use borrow.Author.Tests.{le-leb, eq-eqb, leb-true, eqb-true}
 use Rattle.crc.specs.Crc.{shift, shifts, crcFrom, crcOf, onLine, sealed, body, intact, CrcFits, IntactIsSealed, Put, PutSeals}
 
+pub length-sealed : (bs : List ℕ) → length (sealed bs) ≡ length bs + 2
+length-sealed bs = length-append bs (onLine (crcOf bs))
+
 passes : (bs : List ℕ) → intact (sealed bs) ≡ true
 unfolding intact
 passes bs =
     let lo = crcOf bs % 256 in
     let hi = crcOf bs / 256 in
-    let n : length (sealed bs) ≡ length bs + 2 = length-append bs (lo ∷ hi ∷ []) in
+    let n = length-sealed bs in
     let low : length bs ≡ length (sealed bs) - 2 = omega (arith, n) in
     let high : length (sealed bs) - 1 ≡ length bs + 1 = omega (arith, n) in
     let front = take-at bs (lo ∷ hi ∷ []) _ low in
@@ -68,7 +71,7 @@ module _ (before : List ℕ) (n : ℕ) (room : Bool) (after : List ℕ) (p : Put
   parts h = p .bytes ∙ simp (le-leb _ _ h, sets-eq (onLine (crcOf (take n before))) before n h)
 
   long : n + 2 ≤ length before → length (sealed (take n before)) ≡ n + 2
-  long h = simp (length-append, length-take-le n before (omega arith))
+  long h = omega (arith, length-sealed (take n before), length-take-le n before (omega arith))
 
   refused : room ≡ false → after ≡ before
   refused e = p .bytes ∙ simp (sym (p .answer) ∙ e)

@@ -6,14 +6,14 @@ use Prim.Native.Nat.{ℕ, zero, suc, _+_, _*_, _^_, _≤_, _<_}
 use native.Mathlib.Nat.{lt-of-lt-of-le, pow-le-pow-right}
 use native.Mathlib.Omega.{arith}
 use lib.Dec.{T, leb, eqb}
-use lib.ListN.{length, getD, take, drop, length-append}
+use lib.ListN.{length, getD, take, drop}
 use borrow.Author.Tests.{leb-true, eqb-true, eqb-false, eq-eqb, ne-eqb, le-ltb, not-true}
 use Rattle.refusal.specs.declared.ErrorCode.{ErrorCode}
 use Rattle.refusal.specs.declared.ErrorCode.the-variants.{Function}
 use Rattle.refusal.specs.declared.Refusal.the-variants.{NotARead, IndexPastItems}
 use Rattle.refusal.specs.Numbers.{errorNumber}
 use Rattle.crc.specs.Crc.{crcOf, onLine}
-use Rattle.crc.proofs.Laws.{intact-is-sealed}
+use Rattle.crc.proofs.Laws.{length-sealed, intact-is-sealed}
 use Rattle.words.specs.Words.{sent, valueAt}
 use Rattle.words.proofs.Laws.{read-back}
 use Rattle.ratio.specs.declared.Ratios.{Ratios}
@@ -25,11 +25,10 @@ use Rattle.directory.specs.Table.{directory}
 use Rattle.directory.specs.Run.{runItems}
 use Rattle.directory.proofs.Order.{every-at, ruled-narrow}
 use Rattle.directory.proofs.Rules.{directory-ruled}
-use Rattle.directory.proofs.Sends.{run-sends}
-use Rattle.modbus.specs.Frame.{addressOf, functionOf, wordNumber, startOf, isRead, isWrite, silence}
+use Rattle.modbus.specs.Frame.{addressOf, functionOf, wordNumber, isRead, isWrite, silence}
 use Rattle.modbus.specs.Replies.{dataReply, errorReply, echoReply}
 use Rattle.modbus.proofs.Frames.{shaped-length}
-use Rattle.modbus.proofs.Judged.{asks}
+use Rattle.modbus.proofs.Judged.{legal-read}
 use Rattle.meter.specs.declared.Meter.{Meter}
 use Rattle.meter.specs.Meters.{meterT}
 use Rattle.meter.proofs.Parts.{meter-parts}
@@ -38,7 +37,6 @@ use Rattle.registers.specs.Shown.{shownOf}
 use Rattle.registers.proofs.Widths.{Shows, in-room, typed-shows}
 use Rattle.reading.specs.declared.Answer.the-variants.{Reading, Error, Refused}
 use Rattle.reading.specs.Readings.{readingOf}
-use Rattle.reading.proofs.Wide.{passed}
 use Rattle.board.specs.Reads.{itemsSent}
 use Rattle.board.specs.Board.{Outcome}
 use Rattle.board.specs.Answers.{Answers}
@@ -121,11 +119,8 @@ module _ (m : Meter) (request b : List ℕ) (meets : Meets m request b) (a : Ask
 
   long : length reply ≡ 5 + 2 * wordNumber request
   long =
-      let q = asks directory request (a .first) (a .count) (a .items) in
-      let sends = run-sends .sends directory (startOf request) (wordNumber request) (a .first) (a .count) directory-ruled (q .run) in
-      let words = itemsSent m its in
-      let bs = addressOf request ∷ functionOf request ∷ 2 * wordNumber request ∷ words in
-      length-append bs (onLine (crcOf bs)) ∙ omega (arith, length-items m its, sends)
+      let bs = addressOf request ∷ functionOf request ∷ 2 * wordNumber request ∷ itemsSent m its in
+      length-sealed bs ∙ omega (arith, length-items m its, legal-read (a .items) .sends)
 
   ratios : ratiosOk (m .ratios) ≡ true
   ratios = meter-parts m (meets .within) .ratios
@@ -136,13 +131,12 @@ module _ (m : Meter) (request b : List ℕ) (meets : Meets m request b) (a : Ask
 
   pub fits : Fits request reply (m .ratios)
   fits =
-      let q = asks directory request (a .first) (a .count) (a .items) in
       let other : isReadError reply ≡ false = rw function refl in
       let same : isRead reply ≡ true = rw function refl in
       record {
         sound = record {
           asked = record { ratios = ratios; asks = a };
-          long = simp (le-ltb (length reply) 5 (omega (arith, long)), le-ltb 256 (length reply) (omega (arith, long, q .most)));
+          long = simp (le-ltb (length reply) 5 (omega (arith, long)), le-ltb 256 (length reply) (omega (arith, long, legal-read (a .items) .most)));
           whole = gives-whole m request reply m gives;
           own = simp (eq-eqb (addressOf request) (addressOf request) refl, same);
         };
@@ -157,14 +151,14 @@ module _ (m : Meter) (request b : List ℕ) (meets : Meets m request b) (a : Ask
     it = itemAt a index
 
     inside : a .first + a .count ≤ length directory
-    inside = run-sends .inside directory (startOf request) (wordNumber request) (a .first) (a .count) directory-ruled (asks directory request (a .first) (a .count) (a .items) .run)
+    inside = legal-read (a .items) .inside
 
     known : a .first + index < length directory
     known = omega (arith, inside, below)
 
     fitting-words : Shows m (it .quantity) → shownOf m (it .quantity) < 65536 ^ it .words
     fitting-words fit =
-        let room = leb-true (roomOf it) (2 * it .words) (passed _ (every-at (λ (x : Item). leb (roomOf x) (2 * x .words)) directory directory-roomy (a .first + index) known)) in
+        let room = leb-true (roomOf it) (2 * it .words) (every-at (λ (x : Item). leb (roomOf x) (2 * x .words)) directory directory-roomy (a .first + index) known) in
         let narrow = ruled-narrow directory directory-ruled (a .first + index) known in
         rw (sym (two-bytes (it .words) (narrow .few))) (lt-of-lt-of-le (in-room (a .first + index) known (fit .fits)) (pow-le-pow-right (omega arith) room))
 
@@ -258,7 +252,7 @@ module _ (m : Meter) (request b : List ℕ) (meets : Meets m request b) where
       let loud : silence (addressOf request) request ≡ false = rw (sym (meets .own)) (ans .heeds .heard) in
       record { hears = heard-so request (ans .own) r loud; first = first; count = count; items = s }
   from-data bytes n ans h (miswritten code w v e k) = no-error request bytes code e h
-  from-data bytes n ans h (stores w v e k) = no-echo request bytes (omega (arith, shaped-length 0 request (write-when .legal m request .0 v .0) .0)) w e h
+  from-data bytes n ans h (stores w v e k) = no-echo request bytes (omega (arith, shaped-length request (write-when .legal m request .0 v .0) .0)) w e h
 
   from-reply : isRead (replyTo m request b) ≡ true → View m request b → Asks request
   from-reply h (out w e) = absurd (false≢true (sym w ∙ meets .within))

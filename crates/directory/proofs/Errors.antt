@@ -1,10 +1,11 @@
 -- A run is wrong by its address or by half an L, and in no other way: it goes on or stops with one of these, by the definition.
-use mathlib.Core.Path.{_≡_}
+use mathlib.Core.Path.{_≡_, refl}
 use mathlib.Core.Bool.{Bool, true, false, cond}
 use mathlib.Core.List.{List}
 use Prim.Native.Nat.{ℕ, zero, suc, _+_}
 use native.Mathlib.Omega.{arith}
 use lib.ListN.{getD}
+use Rattle.refusal.specs.declared.ErrorCode.{ErrorCode}
 use Rattle.refusal.specs.declared.ErrorCode.the-variants.{Function, Address, Data}
 use Rattle.directory.specs.declared.Item.{Item}
 use Rattle.directory.specs.declared.Found.{Found}
@@ -18,13 +19,14 @@ use Rattle.directory.specs.Run.{findIn, onItem, isL, runFrom, runIn}
 abbrev Sound : Span → Type 0
 Sound s = s ≡ Error Function → ⊥
 
-items-sound : (first count : ℕ) → Sound (Items first count)
-items-sound first count e = let z : _≡_ {A = ℕ} 0 1 = cc in omega arith
+-- an error is no run
+pub no-run : {A : Type 0} {s : Span} {f c : ℕ} (e : ErrorCode) → s ≡ Error e → s ≡ Items f c → A
+no-run e p q = let z : _≡_ {A = ℕ} 0 1 = cc in let y : ⊥ = omega arith in absurd y
 
 address-sound : Sound (Error Address)
 address-sound e = let z : _≡_ {A = ℕ} 0 1 = cc in omega arith
 
-data-sound : Sound (Error Data)
+pub data-sound : Error Data ≡ Error Function → ⊥
 data-sound e = let z : _≡_ {A = ℕ} 0 1 = cc in omega arith
 
 on-sound : (dir : List Item) (f : Found) (go : ℕ → Item → Span) → ((i : ℕ) (it : Item) → Sound (go i it)) → Sound (onItem dir f go)
@@ -42,7 +44,7 @@ module _ (dir : List Item) (first : ℕ) where
   one : Due 1
   unfolding runFrom
   one count address =
-      on-sound dir (findIn dir address 0) _ (λ i it. cond-sound (isL it) (Error Data) (Items first (count + 1)) data-sound (items-sound first (count + 1)))
+      on-sound dir (findIn dir address 0) _ (λ i it. cond-sound (isL it) (Error Data) (Items first (count + 1)) data-sound (λ e. no-run Function e refl))
 
   -- an L takes two of the words due, any other item one
   more : (due : ℕ) → Due due → Due (suc due) → Due (suc (suc due))
@@ -52,7 +54,7 @@ module _ (dir : List Item) (first : ℕ) where
 
   any-due : (due : ℕ) → Due due × Due (suc due)
   unfolding runFrom
-  any-due zero = (λ count address. items-sound first count, one)
+  any-due zero = (λ count address e. no-run Function e refl, one)
   any-due (suc due) = let r = any-due due in (r .1, more due (r .0) (r .1))
 
 pub run-sound : (dir : List Item) (start words : ℕ) → runIn dir start words ≡ Error Function → ⊥

@@ -1,7 +1,7 @@
 -- A flat table as items: dropping four numbers drops an item, so the item of index i stands at 4 × i.
 use mathlib.Core.Path.{_≡_, refl, sym, ap, _∙_}
 use mathlib.Core.List.{List, [], _∷_}
-use Prim.Native.Nat.{ℕ, zero, suc, _+_, _*_, _≤_, _<_}
+use Prim.Native.Nat.{ℕ, zero, suc, _+_, _*_, _/_, _≤_, _<_}
 use native.Mathlib.Nat.{add-zero}
 use native.Mathlib.Omega.{arith}
 use lib.ListN.{length, getD, drop}
@@ -35,12 +35,11 @@ item-of l i h =
     let front : getD (drop i (items l)) 0 none ≡ getD (items l) i none = rw getD-drop (ap (λ (k : ℕ). getD (items l) k none) (add-zero i)) in
     sym front ∙ ap (λ (its : List Item). getD its 0 none) (items-skip l i (omega arith) ∙ ap items (drop-four l (4 * i) h))
 
--- a table of 4 × n numbers has n items
-pub items-count : (l : List ℕ) (n : ℕ) → 4 * n ≤ length l → n ≤ length (items l)
+-- four numbers make an item
+pub items-length : (l : List ℕ) → length (items l) ≡ length l / 4
 unfolding items
-items-count l zero h = omega arith
-items-count (a ∷ f ∷ w ∷ q ∷ l) (suc n) h = omega (arith, items-count l n (omega arith))
-items-count (a ∷ f ∷ w ∷ []) (suc n) h = omega arith
-items-count (a ∷ f ∷ []) (suc n) h = omega arith
-items-count (a ∷ []) (suc n) h = omega arith
-items-count [] (suc n) h = omega arith
+items-length (a ∷ f ∷ w ∷ q ∷ l) = omega (arith, items-length l)
+items-length (a ∷ f ∷ w ∷ []) = refl
+items-length (a ∷ f ∷ []) = refl
+items-length (a ∷ []) = refl
+items-length [] = refl

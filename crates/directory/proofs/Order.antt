@@ -1,11 +1,13 @@
 -- The computed tests as rules at each item: of two items the later starts where the earlier ends, or after; and each
 -- sends one word or two. They hold of any directory, and of a view of its first items.
-use mathlib.Core.Bool.{Bool, true, false, _&&_}
+use mathlib.Core.Path.{_≡_, refl}
+use mathlib.Core.Bool.{Bool, true, false, _&&_, and-eq-true-iff}
 use mathlib.Core.List.{List, [], _∷_}
 use Prim.Native.Nat.{ℕ, zero, suc, _≤_, _<_}
 use native.Mathlib.Omega.{arith}
 use lib.Dec.{T, leb, ltb, leb→le, ltb→lt}
 use lib.ListN.{length, getD, take}
+use borrow.Author.Tests.{leb-true}
 use Rattle.directory.specs.declared.Item.{Item}
 use Rattle.directory.specs.Item.{none, ends}
 use Rattle.directory.specs.Order.{ascends, every, narrow, ruled}
@@ -49,11 +51,15 @@ apart (next l f a) i zero h k = omega arith
 apart (next l f a) zero (suc j) h k = all-from a j (omega arith)
 apart (next l f a) (suc i) (suc j) h k = apart a i j (omega arith) (omega arith)
 
+holds : (b : Bool) → T b → b ≡ true
+holds true t = refl
+holds false t = absurd t
+
 -- a test of each item, at one of them
-pub every-at : (test : Item → Bool) (its : List Item) → T (every test its) → (k : ℕ) → k < length its → T (test (getD its k none))
+pub every-at : (test : Item → Bool) (its : List Item) → T (every test its) → (k : ℕ) → k < length its → test (getD its k none) ≡ true
 unfolding every
 every-at test [] t k h = let z : ⊥ = omega arith in absurd z
-every-at test (it ∷ its) t zero h = left (test it) _ t
+every-at test (it ∷ its) t zero h = holds (test it) (left (test it) _ t)
 every-at test (it ∷ its) t (suc k) h = every-at test its (right (test it) _ t) k (omega arith)
 
 -- one word or two
@@ -61,13 +67,11 @@ pub record Narrow (it : Item) : Type 0 where
   pub some : 1 ≤ it .words
   pub few : it .words ≤ 2
 
-pub is-narrow : (it : Item) → T (narrow it) → Narrow it
-is-narrow it t =
-    record { some = leb→le _ _ (left (leb 1 (it .words)) _ t); few = leb→le _ _ (right (leb 1 (it .words)) _ t) }
-
 -- the two rules of a directory
 pub ruled-ascends : (its : List Item) → T (ruled its) → Ascends 0 its
 ruled-ascends its t = ascending 0 its (left (ascends 0 its) _ t)
 
 pub ruled-narrow : (its : List Item) → T (ruled its) → (k : ℕ) → k < length its → Narrow (getD its k none)
-ruled-narrow its t k h = is-narrow _ (every-at narrow its (right (ascends 0 its) _ t) k h)
+ruled-narrow its t k h =
+    let a = and-eq-true-iff (leb 1 (getD its k none .words)) _ .0 (every-at narrow its (right (ascends 0 its) _ t) k h) in
+    record { some = leb-true _ _ (a .0); few = leb-true _ _ (a .1) }

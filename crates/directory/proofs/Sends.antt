@@ -16,12 +16,12 @@ use Rattle.refusal.specs.declared.ErrorCode.the-variants.{Address, Data}
 use Rattle.directory.specs.declared.Item.{Item}
 use Rattle.directory.specs.declared.Found.{Found}
 use Rattle.directory.specs.declared.Found.the-variants.{At, Nothing}
-use Rattle.directory.specs.declared.Span.{Span}
 use Rattle.directory.specs.declared.Span.the-variants.{Items, Error}
 use Rattle.directory.specs.Item.{none, ends}
 use Rattle.directory.specs.Order.{ruled}
 use Rattle.directory.specs.Run.{findIn, runFrom, runIn, wordsOf, RunSends}
 use Rattle.directory.proofs.Order.{Ascends, Narrow, ruled-ascends, ruled-narrow}
+use Rattle.directory.proofs.Errors.{no-run}
 use Rattle.directory.proofs.Finds.{found-inside}
 use Rattle.directory.proofs.Runs.{Stands, stands-first, stands-next, stands-end, stands-off, stands-on, run-nowhere, run-starts, run-done, run-gap, run-half, run-next}
 
@@ -35,10 +35,6 @@ record Rest (dir : List Item) (first count due f c : ℕ) : Type 0 where
 some-due : (due : ℕ) → (due ≡ 0) ⊎ (0 < due)
 some-due zero = inl refl
 some-due (suc due) = inr (omega arith)
-
--- an error is no run
-no-run : {A : Type 0} {s : Span} {f c : ℕ} (e : ErrorCode) → s ≡ Error e → s ≡ Items f c → A
-no-run e p q = let z : _≡_ {A = ℕ} 0 1 = cc in let y : ⊥ = omega arith in absurd y
 
 -- the run that ends here, and the run that goes on behind an item
 finished : (dir : List Item) (first count x due f c : ℕ) → first + count ≤ length dir → due ≡ 0 → runFrom dir first count x due ≡ Items f c → Rest dir first count due f c

@@ -3,13 +3,12 @@ use mathlib.Core.Path.{_≡_, refl, _∙_}
 use mathlib.Core.Bool.{true, _&&_, and-eq-true-iff}
 use mathlib.Core.List.{List, [], _∷_}
 use Prim.Native.Nat.{ℕ, suc, _+_, _*_, _/_, _≤_, _<_}
-use native.Mathlib.Nat.{zero-add}
 use native.Mathlib.Omega.{arith}
 use lib.Dec.{ltb, eqb}
 use lib.ListN.{length, getD, drop, drop-of-length-le}
-use lib.Seq.{sets, sets-eq, drop-cons, drop-drop}
+use lib.Seq.{drop-cons, drop-drop}
 use borrow.Author.Tests.{ltb-true}
-use Rattle.lines.specs.Lines.{digitOf, pairOk, byteOf, pairsOk, bytesOf, lineOk, over}
+use Rattle.lines.specs.Lines.{digitOf, pairOk, byteOf, pairsOk, bytesOf, lineOk}
 
 pub nothing : (l : List ℕ) → length l ≡ 0 → l ≡ []
 nothing l h = drop-of-length-le l {i = 0} (omega arith)
@@ -20,10 +19,6 @@ two l i h =
     let first : suc i ≡ i + 1 = omega arith in
     let second : suc (i + 1) ≡ i + 2 = omega arith in
     rw (drop-cons l i 0 (omega arith), first, drop-cons l (i + 1) 0 (omega arith), second)
-
--- stores from the start on
-pub stored : (vs l : List ℕ) → length vs ≤ length l → sets l 0 vs ≡ over vs l
-stored vs l h = simp zero-add at (sets-eq vs l 0 (rw zero-add h))
 
 -- what the two tests of a pair say together
 pub digits : (upper lower : ℕ) → pairOk upper lower ≡ true → (digitOf upper < 16) × (digitOf lower < 16)

@@ -188,7 +188,7 @@ new-answers = record {
 
 -- ---- setup words have no effect
 
-module _ (m : Meter) (standard output : List ℕ) (s : Sample) where
+module _ (m : Meter) (standard output : List ℕ) where
   abbrev other : Meter
   other = withSetup m standard output
 
@@ -209,9 +209,9 @@ module _ (m : Meter) (standard output : List ℕ) (s : Sample) where
   same true false n = refl
   same false c n = refl
 
-  idle : meterOk m ≡ true → setupWithin other ≡ true → afterOf other s ≡ changed (afterOf m s)
+  idle : (s : Sample) → meterOk m ≡ true → setupWithin other ≡ true → afterOf other s ≡ changed (afterOf m s)
   unfolding afterOf
-  idle hm hs = rw (hm, other-within hm hs) (same (sampleOk (meterT m) s) (meterWithinTop (nextOf m s)) (nextOf m s))
+  idle s hm hs = rw (hm, other-within hm hs) (same (sampleOk (meterT m) s) (meterWithinTop (nextOf m s)) (nextOf m s))
 
 pub setup-idle : SetupIdle
 setup-idle = record { sample = idle }

@@ -81,6 +81,8 @@ module _ (own : ℕ) (frame : List ℕ) where
       let d = neither misfit (not (intact frame)) (e .0) in
       record { least = long-enough (d .0); low = leb-false 0x80 (functionOf frame) (f .1) }
 
+-- the shape of a write
+module _ (frame : List ℕ) where
   pub shape-short : length frame < 9 → false ≡ writeShaped frame
   unfolding writeShaped
   shape-short h = rw (lt-ltb (length frame) 9 h) refl

@@ -1,25 +1,21 @@
 -- Bytes that are stored from the start of a buffer on: one by one, all of them, and with their CRC behind them.
 use mathlib.Core.Path.{_≡_, refl, sym, ap, _∙_}
 use mathlib.Core.Bool.{Bool}
-use mathlib.Core.List.{List, _++_, append-nil}
+use mathlib.Core.List.{List, append-nil}
 use Prim.Native.Nat.{ℕ, _+_, _≤_, _<_}
 use native.Mathlib.Numerals.{add-one}
-use native.Mathlib.Nat.{zero-add}
 use native.Mathlib.Omega.{arith}
-use lib.ListN.{length, getD, set, take, drop, drop-of-length-le, length-append}
-use lib.Seq.{sets, sets-eq, length-sets, take-at, drop-cons}
+use lib.ListN.{length, getD, set, take, drop, drop-of-length-le}
+use lib.Seq.{sets, length-sets, take-at, drop-cons}
 use borrow.Author.Tests.{le-leb}
-use Rattle.words.proofs.Laws.{sets-append}
+use Rattle.words.proofs.Laws.{sets-append, sets-front}
 use Rattle.crc.specs.Crc.{crcOf, onLine, sealed, Put}
 
 -- what is left to store, one byte on
 pub sets-on : (l buf : List ℕ) (i : ℕ) → i < length l → sets buf i (drop i l) ≡ sets (set buf i (getD l i 0)) (i + 1) (drop (i + 1) l)
 sets-on l buf i h = rw (add-one i, drop-cons l i 0 h) refl
 
--- a front of a buffer, and all of it
-pub sets-front : (b bs : List ℕ) → length bs ≤ length b → sets b 0 bs ≡ bs ++ drop (length bs) b
-sets-front b bs h = let fits : 0 + length bs ≤ length b = omega arith in sets-eq bs b 0 fits ∙ rw (zero-add (length bs)) refl
-
+-- all of a buffer
 pub sets-whole : (b bs : List ℕ) → length bs ≡ length b → sets b 0 bs ≡ bs
 sets-whole b bs e = sets-front b bs (omega arith) ∙ rw (drop-of-length-le b {i = length bs} (omega arith)) (append-nil bs)
 
@@ -31,6 +27,3 @@ seals b bs n room now after e h s p =
     let front : take n now ≡ bs = ap (take n) (s ∙ sets-front b bs (omega arith)) ∙ take-at bs _ n e in
     let behind : 0 + length bs ≡ n = omega arith in
     p .bytes ∙ rw (le-leb (n + 2) (length now) long, front, s) (sym (sets-append b 0 bs (onLine (crcOf bs)) ∙ rw behind refl))
-
-pub length-sealed : (bs : List ℕ) (n : ℕ) → length bs ≡ n → n + 2 ≡ length (sealed bs)
-length-sealed bs n e = sym (length-append bs (onLine (crcOf bs)) ∙ omega arith)

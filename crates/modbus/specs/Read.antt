@@ -22,10 +22,9 @@ numberWrong n = ltb n 1 || ltb 120 n
 unfoldable pub readIn : List Item → List ℕ → Span
 readIn dir frame =
     -- length not 8, or word number outside 1 to 120: error 03
-    cond (not (eqb (length frame) 8)) (Error Data)
-    (cond (numberWrong (wordNumber frame)) (Error Data)
+    cond (not (eqb (length frame) 8) || numberWrong (wordNumber frame)) (Error Data)
     -- start, and the run item by item: error 02, or 03 for half an L; else data
-    (runIn dir (startOf frame) (wordNumber frame)))
+    (runIn dir (startOf frame) (wordNumber frame))
 
 -- STATEMENT: of a read, error 02 and error 03 are due exactly when, and it is answered with data exactly when neither is; error 01 never is
 pub record ReadWhen : Type 0 where

@@ -38,14 +38,10 @@ pub record Wide (it : Item) : Type 0 where
   pub least : 1 ≤ it .quantity / 64
   pub most : it .quantity / 64 ≤ 16
 
-pub passed : (x : Bool) → T x → x ≡ true
-passed true h = refl
-passed false h = absurd h
-
 pub wide-at : (i : ℕ) → i < length directory → Wide (getD directory i none)
 wide-at i h =
     let it = getD directory i none in
-    let a = and-eq-true-iff (eqb (it .words) (wordsFor (it .quantity / 64) (it .quantity % 64))) _ .0 (passed _ (every-at wide directory directory-wide i h)) in
+    let a = and-eq-true-iff (eqb (it .words) (wordsFor (it .quantity / 64) (it .quantity % 64))) _ .0 (every-at wide directory directory-wide i h) in
     let b = and-eq-true-iff (not (isL it && isB it)) _ .0 (a .1) in
     let c = and-eq-true-iff (leb 1 (it .quantity / 64)) (leb (it .quantity / 64) 16) .0 (b .1) in
     record { words = eqb-true _ _ (a .0); apart = not-true _ (b .0); least = leb-true _ _ (c .0); most = leb-true _ _ (c .1) }

@@ -1,4 +1,4 @@
--- A write is judged by five tests in their order: which verdict each of them leads to, and what becomes of the record.
+-- A write is judged by four tests in their order: which verdict each of them leads to, and what becomes of the record.
 use mathlib.Core.Path.{_≡_, refl, sym, ap, _∙_}
 use mathlib.Core.Logic.{_↔_, _⊎_, inl, inr}
 use mathlib.Core.Bool.{Bool, true, false, _&&_, _||_, not, cond, false≢true, and-eq-true-iff}
@@ -20,11 +20,11 @@ use Rattle.meter.proofs.Answers.{other-within}
 use Rattle.store.specs.declared.Written.{Written}
 use Rattle.store.specs.Writes.{toStandard, toOutput, groupWords, storedOf, wrongOf, writtenOf, toGroup, fits, WriteWhen, WriteWithin}
 
--- what the tests lead to: a shaped, s and o to a group, n its words, g its values; m is the meter, k the meter with it stored
-abbrev judged : Bool → Bool → Bool → Bool → Bool → Meter → Meter → Written
-judged a s o n g m k =
+-- what the tests lead to: a shaped, p to a group, n its words, g its values; m is the meter, k the meter with it stored
+abbrev judged : Bool → Bool → Bool → Bool → Meter → Meter → Written
+judged a p n g m k =
     cond (not a) (wrongOf m Data)
-    (cond (not s && not o) (wrongOf m Address)
+    (cond (not p) (wrongOf m Address)
     (cond (not n) (wrongOf m Data)
     (cond (not g) (wrongOf m Data)
     (record { verdict = Good; meter = k }))))
@@ -42,55 +42,43 @@ address-function e = let z : _≡_ {A = ℕ} 0 1 = cc in let y : ⊥ = omega ari
 pub wrong-good : {A : Type 0} {code : ErrorCode} → Wrong code ≡ Good → A
 wrong-good e = let z : _≡_ {A = ℕ} 0 1 = cc in let y : ⊥ = omega arith in absurd y
 
-never {ℓ} : {A : Type ℓ} → false ≡ true → A
-never h = absurd (false≢true h)
-
 module _ (m k : Meter) where
-  -- of a write to a group: its words and values decide
-  last : (n g : Bool) → cond (not n) (wrongOf m Data) (cond (not g) (wrongOf m Data) (record { verdict = Good; meter = k })) ≡ cond (n && g) (record { verdict = Good; meter = k }) (wrongOf m Data)
-  last true true = refl
-  last true false = refl
-  last false g = refl
-
-  -- to a group or to none
-  either : (s o : Bool) (x y : Written) → cond (not s && not o) x y ≡ cond (s || o) y x
-  either true o x y = refl
-  either false true x y = refl
-  either false false x y = refl
-
   -- the same by three tests: f for words and values together
   abbrev by-three : Bool → Bool → Bool → Written
   by-three a p f = cond a (cond p (cond f (record { verdict = Good; meter = k }) (wrongOf m Data)) (wrongOf m Address)) (wrongOf m Data)
 
-  three : (a s o n g : Bool) → judged a s o n g m k ≡ by-three a (s || o) (n && g)
-  three true s o n g = either s o (wrongOf m Address) _ ∙ ap (λ (x : Written). cond (s || o) x (wrongOf m Address)) (last n g)
-  three false s o n g = refl
+  three : (a p n g : Bool) → judged a p n g m k ≡ by-three a p (n && g)
+  three true true true true = refl
+  three true true true false = refl
+  three true true false g = refl
+  three true false n g = refl
+  three false p n g = refl
 
   address-when : (a p f : Bool) → (by-three a p f .verdict ≡ Wrong Address) ↔ ((a ≡ true) × (p ≡ false))
-  address-when true true true = (λ h. wrong-good (sym h), λ h. never (sym (h .1)))
-  address-when true true false = (λ h. data-address h, λ h. never (sym (h .1)))
+  address-when true true true = (λ h. wrong-good (sym h), λ h. absurd (false≢true (sym (h .1))))
+  address-when true true false = (λ h. data-address h, λ h. absurd (false≢true (sym (h .1))))
   address-when true false f = (λ h. (refl, refl), λ h. refl)
-  address-when false p f = (λ h. data-address h, λ h. never (h .0))
+  address-when false p f = (λ h. data-address h, λ h. absurd (false≢true (h .0)))
 
   data-when : (a p f : Bool) → (by-three a p f .verdict ≡ Wrong Data) ↔ ((a ≡ false) ⊎ ((p ≡ true) × (f ≡ false)))
   data-when true true true = (λ h. wrong-good (sym h), no)
     where
       no : ((true ≡ false) ⊎ ((true ≡ true) × (true ≡ false))) → Good ≡ Wrong Data
-      no (inl h) = never (sym h)
-      no (inr h) = never (sym (h .1))
+      no (inl h) = absurd (false≢true (sym h))
+      no (inr h) = absurd (false≢true (sym (h .1)))
   data-when true true false = (λ h. inr (refl, refl), λ h. refl)
   data-when true false f = (λ h. data-address (sym h), no)
     where
       no : ((true ≡ false) ⊎ ((false ≡ true) × (f ≡ false))) → Wrong Address ≡ Wrong Data
-      no (inl h) = never (sym h)
-      no (inr h) = never (h .0)
+      no (inl h) = absurd (false≢true (sym h))
+      no (inr h) = absurd (false≢true (h .0))
   data-when false p f = (λ h. inl refl, λ h. refl)
 
   good-when : (a p f : Bool) → (by-three a p f .verdict ≡ Good) ↔ ((a ≡ true) × (p ≡ true) × (f ≡ true))
   good-when true true true = (λ h. (refl, refl, refl), λ h. refl)
-  good-when true true false = (λ h. wrong-good h, λ h. never (h .2))
-  good-when true false f = (λ h. wrong-good h, λ h. never (h .1))
-  good-when false p f = (λ h. wrong-good h, λ h. never (h .0))
+  good-when true true false = (λ h. wrong-good h, λ h. absurd (false≢true (h .2)))
+  good-when true false f = (λ h. wrong-good h, λ h. absurd (false≢true (h .1)))
+  good-when false p f = (λ h. wrong-good h, λ h. absurd (false≢true (h .0)))
 
   not-function : (a p f : Bool) → by-three a p f .verdict ≡ Wrong Function → ⊥
   not-function true true true h = wrong-good (sym h)
@@ -113,7 +101,7 @@ module _ (m k : Meter) where
 module _ (m : Meter) (frame : List ℕ) where
   is-judged : writtenOf m frame ≡ by-three m (storedOf m frame) (writeShaped frame) (toGroup frame) (fits frame)
   unfolding writtenOf
-  is-judged = three m (storedOf m frame) (writeShaped frame) (toStandard frame) (toOutput frame) (eqb (wordNumber frame) (groupWords frame)) (groupOk (startOf frame) (valuesOf frame))
+  is-judged = three m (storedOf m frame) (writeShaped frame) (toGroup frame) (eqb (wordNumber frame) (groupWords frame)) (groupOk (startOf frame) (valuesOf frame))
 
 pub write-when : WriteWhen
 write-when =
@@ -141,11 +129,11 @@ module _ (m : Meter) (frame : List ℕ) (hm : meterOk m ≡ true) (t : toGroup f
   stored-within : (s : Bool) → toStandard frame ≡ s → meterOk (storedOf m frame) ≡ true
   stored-within true s =
       let e : storedOf m frame ≡ withSetup m (valuesOf frame) (m .output) = rw s refl in
-      ap meterOk e ∙ other-within m (valuesOf frame) (m .output) (m .latest) hm (λ i. ranged 0x2000 s i && groups .1 i)
+      ap meterOk e ∙ other-within m (valuesOf frame) (m .output) hm (λ i. ranged 0x2000 s i && groups .1 i)
   stored-within false s =
       let e : storedOf m frame ≡ withSetup m (m .standard) (valuesOf frame) = rw s refl in
       let o : toOutput frame ≡ true = sym (ap (λ (x : Bool). x || toOutput frame) s) ∙ t in
-      ap meterOk e ∙ other-within m (m .standard) (valuesOf frame) (m .latest) hm (λ i. groups .0 i && ranged 0x2200 o i)
+      ap meterOk e ∙ other-within m (m .standard) (valuesOf frame) hm (λ i. groups .0 i && ranged 0x2200 o i)
 
 by-verdict : (m : Meter) (frame : List ℕ) → meterOk m ≡ true → (v : Verdict) → writtenOf m frame .verdict ≡ v → meterOk (writtenOf m frame .meter) ≡ true
 by-verdict m frame h (Wrong code) e = ap meterOk (write-when .kept m frame code e) ∙ h

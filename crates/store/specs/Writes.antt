@@ -24,6 +24,10 @@ toStandard frame = eqb (startOf frame) 0x2000
 abbrev pub toOutput : List ℕ → Bool
 toOutput frame = eqb (startOf frame) 0x2200
 
+-- the write goes to a group
+abbrev pub toGroup : List ℕ → Bool
+toGroup frame = toStandard frame || toOutput frame
+
 -- the words of the group that a write goes to
 abbrev pub groupWords : List ℕ → ℕ
 groupWords frame = cond (toStandard frame) 16 24
@@ -45,7 +49,7 @@ writtenOf m frame =
     -- word number 0, byte number not twice the word number, or length not 9 plus byte number: error 03
     cond (not (writeShaped frame)) (wrongOf m Data)
     -- start neither 0x2000 nor 0x2200: error 02
-    (cond (not (toStandard frame) && not (toOutput frame)) (wrongOf m Address)
+    (cond (not (toGroup frame)) (wrongOf m Address)
     -- word number not 16, or 24, for that group: error 03
     (cond (not (eqb (wordNumber frame) (groupWords frame))) (wrongOf m Data)
     -- a value out of range: error 03
@@ -57,10 +61,6 @@ writtenOf m frame =
 abbrev pub writeReply : List ℕ → Verdict → List ℕ
 writeReply frame (Wrong code) = errorReply frame code
 writeReply frame Good = echoReply frame
-
--- the write goes to a group
-abbrev pub toGroup : List ℕ → Bool
-toGroup frame = toStandard frame || toOutput frame
 
 -- its words are that group's, and each value is in range
 abbrev pub fits : List ℕ → Bool

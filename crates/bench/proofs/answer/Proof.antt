@@ -1,5 +1,5 @@
 -- A frame has room for what is put there, and a reply has 256 bytes at the most.
-use mathlib.Core.Path.{_≡_, sym, ap, _∙_}
+use mathlib.Core.Path.{_≡_, sym}
 use mathlib.Core.Bool.{Bool, true, false, cond}
 use mathlib.Core.List.{List}
 use Prim.Native.Nat.{ℕ, _≤_, min}
@@ -8,9 +8,7 @@ use lib.ListN.{length}
 use lib.Seq.{length-take-le}
 use Rattle.lines.specs.declared.Line.the-variants.{Frame, Bad}
 use Rattle.lines.specs.Lines.{bytesOf, lineOk, lineOf}
-use Rattle.board.specs.declared.Handled.{Handled}
-use Rattle.board.specs.declared.Reply.the-variants.{Sent}
-use Rattle.board.proofs.Answers.{replies-sealed}
+use Rattle.board.proofs.Answers.{reply-long}
 use borrow.Author.Needs.{needs}
 use Rattle.bench.proofs.answer.Statement.{statement}
 use Rattle.bench.proofs.answer.Tie as tie
@@ -28,9 +26,6 @@ put c =
     let s = a .before .before .before in
     let holds : lineOf (s .args .line .now) 257 ≡ Frame (c .n .given .0 .0) = cc in
     kept (s .args .line .now) 257 _ holds
-
-sent : (c : tie.After-handle) (n : ℕ) → c .handle .result .reply ≡ Sent n → n ≤ 256
-sent c n e = replies-sealed .long _ _ _ n (ap (λ (x : Handled). x .reply) (sym (c .handle .ensures .0)) ∙ e)
 
 slice-aggregate-frame : tie.Need-slice-aggregate-frame
 slice-aggregate-frame c = search needs
@@ -69,7 +64,7 @@ slice-aggregate-tell : tie.Need-slice-aggregate-tell
 slice-aggregate-tell c = search needs
 
 tell-requires : tie.Need-tell-requires
-tell-requires c κs = (search needs, λ n e. omega (arith, sent (c .before .before) n e))
+tell-requires c κs = (search needs, λ n e. omega (arith, reply-long _ _ _ (c .before .before .handle .ensures .0) e))
 
 returns-2 : tie.Need-returns-2
 returns-2 c = search needs

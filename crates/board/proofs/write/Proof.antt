@@ -35,7 +35,7 @@ put-echo-requires : tie.Need-put-echo-requires
 put-echo-requires c κs =
     let s = c .before .before .before .before .before .before .before .before .before in
     let good : writtenOf (s .args .meter) (s .args .frame .now) .verdict ≡ Good = cc in
-    (omega (arith, shaped-length 0 (s .args .frame .now) (write-when .legal (s .args .meter) (s .args .frame .now) .0 good .0) .0), s .pre .1 .1)
+    (omega (arith, shaped-length (s .args .frame .now) (write-when .legal (s .args .meter) (s .args .frame .now) .0 good .0) .0), s .pre .1 .1)
 
 enum-known-verdict : tie.Need-enum-known-verdict
 enum-known-verdict c = search needs

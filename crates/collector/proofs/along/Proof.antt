@@ -2,14 +2,11 @@
 use mathlib.Core.Path.{_≡_, sym, ap, _∙_}
 use native.Mathlib.Omega.{arith}
 use mathlib.Core.List.{List}
-use lib.ListN.{take}
-use lib.Seq.{take-all}
 use Rattle.directory.specs.declared.Item.{Item}
 use Rattle.directory.specs.declared.Span.{Span}
 use Rattle.directory.specs.declared.Span.the-variants.{Items, Error}
-use Rattle.directory.specs.Item.{items}
 use Rattle.directory.specs.Table.{directory}
-use Rattle.directory.proofs.Rules.{directory-ruled, directory-rules}
+use Rattle.directory.proofs.Rules.{directory-ruled, directory-rules, directory-room, directory-whole}
 use Rattle.modbus.specs.Read.{readIn}
 use Rattle.reading.specs.declared.Answer.{Answer}
 use Rattle.collector.specs.Collector.{onItems, replyOf}
@@ -17,14 +14,10 @@ use borrow.Author.Needs.{needs}
 use Rattle.collector.proofs.along.Statement.{statement}
 use Rattle.collector.proofs.along.Tie as tie
 
--- the whole table is seen
-seen : (s : tie.Start) → take 142 (items (s .args .t .now)) ≡ directory
-seen s = ap (take 142) (s .pre .1) ∙ take-all 142 directory (omega (arith, directory-rules .count))
-
 judged : (r : tie.After-read-in) → r .read-in .result ≡ readIn directory (r .before .before .before .before .args .request .now)
 judged r =
     let s = r .before .before .before .before in
-    r .read-in .ensures ∙ ap (λ (dir : List Item). readIn dir (s .args .request .now)) (seen s)
+    r .read-in .ensures ∙ ap (λ (dir : List Item). readIn dir (s .args .request .now)) (directory-whole (s .args .t .now) (s .pre))
 
 -- how a read that asks for items goes on
 abbrev going : tie.Start → List Item → Answer
@@ -33,7 +26,7 @@ going s its = replyOf (s .args .tenths) (s .args .request .now) (s .args .reply 
 read-in-requires : tie.Need-read-in-requires
 read-in-requires c κs =
     let s = c .before .before .before in
-    (s .pre .0, rw (s .pre .1) directory-ruled)
+    (omega (arith, directory-room (s .args .t .now) (s .pre), directory-rules .count), rw (s .pre) directory-ruled)
 
 enum-known-span : tie.Need-enum-known-span
 enum-known-span c = search needs

@@ -9,8 +9,8 @@ use Rattle.directory.specs.declared.Item.{Item}
 use Rattle.directory.specs.Item.{none}
 use Rattle.directory.specs.Table.{directory}
 use Rattle.directory.specs.Run.{runItems, wordsOf}
-use Rattle.directory.proofs.Order.{Narrow, ruled-narrow}
-use Rattle.directory.proofs.Rules.{directory-ruled, directory-rules}
+use Rattle.directory.proofs.Order.{Narrow}
+use Rattle.directory.proofs.Rules.{directory-rules, directory-room, directory-item}
 use Rattle.reading.specs.Readings.{longOf, wordOf, isB}
 use Rattle.collector.specs.Collector.{placeOf}
 use Rattle.collector.proofs.Places.{words-within, run-length, run-at, run-front, item-past, item-long, item-word}
@@ -33,7 +33,7 @@ add-item-at c = omega (arith, directory-rules .count, c .before .before .before 
 item-at-requires : tie.Need-item-at-requires
 item-at-requires c κs =
     let s = c .before .before .before .before in
-    omega (arith, s .pre .0 .0, s .pre .1 .0, directory-rules .count)
+    omega (arith, directory-room (s .args .t .now) (s .pre .0), s .pre .1 .0)
 
 -- what is known of the item when it is found
 record Known (its : List Item) (reply : List ℕ) (index at : ℕ) (it : Item) : Type 0 where
@@ -52,14 +52,14 @@ known r =
     let a = s .args in
     let within = run-length directory (a .first) (a .count) (s .pre .1 .0) in
     let inside : a .index < length (its r) = omega (arith, within) in
-    let is : r .item-at .result ≡ getD (its r) (a .index) none =
-    r .item-at .ensures ∙ ap (λ (l : List Item). getD l (a .first + a .index) none) (s .pre .0 .1) ∙ sym (run-at directory (a .first) (a .count) (a .index) (omega arith)) in
+    let found = directory-item (a .t .now) (s .pre .0) (a .first + a .index) (omega (arith, s .pre .1 .0)) (r .item-at .ensures) in
+    let is : r .item-at .result ≡ getD (its r) (a .index) none = found .0 ∙ sym (run-at directory (a .first) (a .count) (a .index) (omega arith)) in
     let place : r .before .place .result ≡ placeOf (its r) (a .index) =
     r .before .place .ensures ∙ ap (λ (l : List Item). 3 + 2 * wordsOf l) (sym (run-front directory (a .first) (a .count) (a .index) (omega arith))) in
     record {
       inside = inside;
       is = is;
-      narrow = rw (is, run-at directory (a .first) (a .count) (a .index) (omega arith)) (ruled-narrow directory directory-ruled (a .first + a .index) (omega (arith, s .pre .1 .0)));
+      narrow = found .1;
       place = place;
       room = omega (arith, place, ap (λ (it : Item). it .words) is, words-within (its r) (a .index) inside, s .pre .1 .1);
     }

@@ -1,15 +1,14 @@
 -- In each turn the words of one item more are passed; an item sends one word or two.
 use mathlib.Core.Path.{_≡_, refl, ap, _∙_}
 use native.Mathlib.Omega.{arith}
-use mathlib.Core.List.{List}
 use Prim.Native.Nat.{ℕ, _+_, _-_, _*_, _≤_}
 use lib.ListN.{getD, take, drop}
 use Rattle.directory.specs.declared.Item.{Item}
 use Rattle.directory.specs.Item.{none}
 use Rattle.directory.specs.Table.{directory}
 use Rattle.directory.specs.Run.{wordsOf}
-use Rattle.directory.proofs.Order.{Narrow, ruled-narrow}
-use Rattle.directory.proofs.Rules.{directory-ruled, directory-rules}
+use Rattle.directory.proofs.Order.{Narrow}
+use Rattle.directory.proofs.Rules.{directory-rules, directory-room, directory-item}
 use Rattle.collector.proofs.Places.{place-on}
 use borrow.Author.Needs.{needs}
 use Rattle.collector.proofs.place.Statement.{statement}
@@ -31,18 +30,13 @@ add-item-at c = omega (arith, directory-rules .count, c .before .before .before 
 item-at-requires : tie.Need-item-at-requires Inv-loop μ-loop
 item-at-requires c κs =
     let s = c .before .before .before in
-    omega (arith, s .pre .0 .0, s .pre .1, directory-rules .count)
+    omega (arith, directory-room (s .args .t .now) (s .pre .0), s .pre .1)
 
--- it is the directory's
-item-is : (r : tie.After-item-at Inv-loop μ-loop) → r .item-at .result ≡ getD directory (r .before .before .before .before .args .first + r .before .before .loop .i) none
-item-is r =
+-- it is the directory's, and sends one word or two
+found : (r : tie.After-item-at Inv-loop μ-loop) → (r .item-at .result ≡ getD directory (r .before .before .before .before .args .first + r .before .before .loop .i) none) × Narrow (r .item-at .result)
+found r =
     let s = r .before .before .before .before in
-    r .item-at .ensures ∙ ap (λ (its : List Item). getD its (s .args .first + r .before .before .loop .i) none) (s .pre .0 .1)
-
-narrow : (r : tie.After-item-at Inv-loop μ-loop) → Narrow (r .item-at .result)
-narrow r =
-    let s = r .before .before .before .before in
-    rw (item-is r) (ruled-narrow directory directory-ruled (s .args .first + r .before .before .loop .i) (omega (arith, s .pre .1)))
+    directory-item (s .args .t .now) (s .pre .0) (s .args .first + r .before .before .loop .i) (omega (arith, s .pre .1)) (r .item-at .ensures)
 
 cast-at : tie.Need-cast-at Inv-loop μ-loop
 cast-at c = search needs
@@ -51,7 +45,7 @@ mul-at : tie.Need-mul-at Inv-loop μ-loop
 mul-at c = search needs
 
 add-at : tie.Need-add-at Inv-loop μ-loop
-add-at c = omega (arith, narrow (c .before) .few, c .before .before .before .loop .inv .1, directory-rules .count, c .before .before .before .before .before .pre .1)
+add-at c = omega (arith, found (c .before) .1 .few, c .before .before .before .loop .inv .1, directory-rules .count, c .before .before .before .before .before .pre .1)
 
 add-i : tie.Need-add-i Inv-loop μ-loop
 add-i c = omega arith
@@ -65,7 +59,7 @@ loop-again c =
     let l = r .before .before .loop in
     let s = r .before .before .before .before in
     let on = place-on directory (s .args .first) (l .i) (omega (arith, s .pre .1)) in
-    (omega arith, omega (arith, narrow r .few, l .inv .1), omega (arith, l .inv .2, on, ap (λ (it : Item). it .words) (item-is r)))
+    (omega arith, omega (arith, found r .1 .few, l .inv .1), omega (arith, l .inv .2, on, ap (λ (it : Item). it .words) (found r .0)))
 
 returns : tie.Need-returns Inv-loop μ-loop
 returns c =

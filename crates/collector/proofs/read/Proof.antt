@@ -1,6 +1,5 @@
 -- The tests are the definition's own; the flat table, read four numbers at a time, is the directory.
 use mathlib.Core.Path.{refl, sym, _∙_}
-use native.Mathlib.Omega.{arith}
 use borrow.Author.Tests.{not-true, not-false}
 use Rattle.directory.specs.Item.{items}
 use Rattle.directory.specs.Table.{directory}
@@ -31,7 +30,7 @@ tenths-requires c κs = search needs
 
 along-requires : tie.Need-along-requires
 unfolding directory items
-along-requires c κs = (omega arith, refl)
+along-requires c κs = refl
 
 returns-3 : tie.Need-returns-3
 unfolding collectorOf

@@ -10,11 +10,8 @@ use borrow.Author.Tests.{not-true, not-false, eq-eqb, ne-eqb, ltb-false}
 use Rattle.crc.specs.Crc.{intact}
 use Rattle.directory.specs.Table.{directory}
 use Rattle.directory.specs.Run.{runItems}
-use Rattle.directory.proofs.Rules.{directory-ruled}
-use Rattle.directory.proofs.Sends.{run-sends}
-use Rattle.modbus.specs.Frame.{startOf, wordNumber}
 use Rattle.modbus.proofs.Frames.{neither}
-use Rattle.modbus.proofs.Judged.{Asks, asks}
+use Rattle.modbus.proofs.Judged.{LegalRead, legal-read}
 use Rattle.collector.proofs.Judged.{length-refused, crc-refused, foreign-refused, error-given, misfit-refused, item-given, misfit-read, fitting}
 use borrow.Author.Needs.{needs}
 use Rattle.collector.proofs.replied.Statement.{statement}
@@ -24,8 +21,8 @@ use Rattle.collector.proofs.replied.Tie as tie
 long : (reply : List ℕ) → (ltb (length reply) 5 || ltb 256 (length reply)) ≡ false → 5 ≤ length reply
 long reply h = ltb-false (length reply) 5 (neither (ltb (length reply) 5) (ltb 256 (length reply)) h .0)
 
-asked : (s : tie.Start) → Asks directory (s .args .request .now) (s .args .first) (s .args .count)
-asked s = asks directory (s .args .request .now) (s .args .first) (s .args .count) (s .pre .1)
+asked : (s : tie.Start) → LegalRead (s .args .request .now) (s .args .first) (s .args .count)
+asked s = legal-read (s .pre .1)
 
 returns : tie.Need-returns
 returns c =
@@ -97,8 +94,7 @@ item-requires c κs =
     let a = s .args in
     let q = asked s in
     let fits = fitting (a .request .now) (a .reply .now) (misfit-read (a .request .now) (a .reply .now) _ false (c .before .word-at .ensures) (c .if5 .left)) in
-    let sends = run-sends .sends directory (startOf (a .request .now)) (wordNumber (a .request .now)) (a .first) (a .count) directory-ruled (q .run) in
-    (s .pre .0, (run-sends .inside directory (startOf (a .request .now)) (wordNumber (a .request .now)) (a .first) (a .count) directory-ruled (q .run), omega (arith, fits, sends)))
+    (s .pre .0, (q .inside, omega (arith, fits, q .sends)))
 
 returns-6 : tie.Need-returns-6
 returns-6 c =

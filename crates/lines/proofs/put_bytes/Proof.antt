@@ -9,7 +9,8 @@ use native.Mathlib.Omega.{arith}
 use lib.ListN.{length, getD, set, take, drop, length-take, length-drop, length-set}
 use lib.Seq.{sets}
 use Rattle.lines.specs.Lines.{byteOf, bytesOf, lineOk, over}
-use Rattle.lines.proofs.Laws.{nothing, stored, bytes-length, turn-ok, turn-bytes}
+use Rattle.words.proofs.Laws.{sets-front}
+use Rattle.lines.proofs.Laws.{nothing, bytes-length, turn-ok, turn-bytes}
 use Rattle.lines.proofs.put_bytes.Statement.{statement}
 use Rattle.lines.proofs.put_bytes.Tie as tie
 
@@ -24,7 +25,7 @@ abbrev μ-loop : tie.MeasureT-loop
 μ-loop line buffer₀ n i₀ buffer i = n - i
 
 starts : (buffer bytes : List ℕ) → sets buffer 0 (take (length buffer - 0) bytes) ≡ over (take (length buffer) bytes) buffer
-starts buffer bytes = rw sub-zero (stored (take (length buffer) bytes) buffer (simp length-take (omega arith)))
+starts buffer bytes = rw sub-zero (sets-front buffer (take (length buffer) bytes) (simp length-take (omega arith)))
 
 turn : (line buffer : List ℕ) (i room r : ℕ) → 3 * i + 2 ≤ length line → i < room → r ≡ byteOf (getD line (3 * i) 0) (getD line (3 * i + 1) 0) → sets (set buffer i r) (i + 1) (take (room - (i + 1)) (bytesOf (drop (3 * (i + 1)) line))) ≡ sets buffer i (take (room - i) (bytesOf (drop (3 * i) line)))
 turn line buffer i room r h inside e =

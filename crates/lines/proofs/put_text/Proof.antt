@@ -7,7 +7,8 @@ use lib.ListN.{length, getD, set, drop, length-set, drop-of-length-le}
 use lib.Seq.{sets, drop-cons}
 use borrow.Author.Needs.{needs}
 use Rattle.lines.specs.Lines.{capital, textOf, over}
-use Rattle.lines.proofs.Laws.{two, stored}
+use Rattle.words.proofs.Laws.{sets-front}
+use Rattle.lines.proofs.Laws.{two}
 use Rattle.lines.proofs.Texts.{text-length}
 use Rattle.lines.proofs.put_text.Statement.{statement}
 use Rattle.lines.proofs.put_text.Tie as tie
@@ -43,7 +44,7 @@ sub-last c = omega arith
 loop-holds : tie.Need-loop-holds Inv-loop μ-loop
 loop-holds c =
     let s = c .before .before in
-    (omega arith, refl, stored (textOf (s .args .bytes .now)) (s .args .buffer .now) (omega (arith, text-length (s .args .bytes .now))))
+    (omega arith, refl, sets-front (s .args .buffer .now) (textOf (s .args .bytes .now)) (omega (arith, text-length (s .args .bytes .now))))
 
 mul-put-digits : tie.Need-mul-put-digits Inv-loop μ-loop
 mul-put-digits c = omega arith

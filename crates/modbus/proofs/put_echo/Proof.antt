@@ -4,7 +4,8 @@ use Prim.Native.Nat.{_-_, _≤_}
 use native.Mathlib.Omega.{arith}
 use lib.ListN.{length, getD, take, drop, length-set, drop-of-length-le}
 use lib.Seq.{sets, length-take-le, getD-take}
-use Rattle.modbus.proofs.Stores.{sets-on, seals, length-sealed}
+use Rattle.crc.proofs.Laws.{length-sealed}
+use Rattle.modbus.proofs.Stores.{sets-on, seals}
 use borrow.Author.Needs.{needs}
 use Rattle.modbus.proofs.put_echo.Statement.{statement}
 use Rattle.modbus.proofs.put_echo.Tie as tie
@@ -49,7 +50,7 @@ returns c =
     let six : length (take 6 (a .frame .now)) ≡ 6 = length-take-le 6 (a .frame .now) (omega arith) in
     let none-left = drop-of-length-le (take 6 (a .frame .now)) {i = l .i} (omega arith) in
     let stored = sym (ap (sets (l .buffer) (l .i)) none-left) ∙ l .inv .2 in
-    (length-sealed (take 6 (a .frame .now)) 6 six, seals (a .buffer .now) (take 6 (a .frame .now)) 6 _ (l .buffer) _ six (omega arith) stored (c .before .before .put .ensures))
+    (omega (arith, six, length-sealed (take 6 (a .frame .now))), seals (a .buffer .now) (take 6 (a .frame .now)) 6 _ (l .buffer) _ six (omega arith) stored (c .before .before .put .ensures))
 
 pub put-echo-spec : {M : Type 1} → statement M
 put-echo-spec =

@@ -6,7 +6,7 @@ use Rattle.modbus.proofs.write_shaped.Statement.{statement}
 use Rattle.modbus.proofs.write_shaped.Tie as tie
 
 returns : tie.Need-returns
-returns c = shape-short 0 (c .before .before .args .frame .now) (c .if1 .taken)
+returns c = shape-short (c .before .before .args .frame .now) (c .if1 .taken)
 
 word-at-requires : tie.Need-word-at-requires
 word-at-requires c κs = search needs
@@ -29,7 +29,7 @@ add-result c = omega (arith, c .shared-slice-known2 .given 6)
 returns-2 : tie.Need-returns-2
 returns-2 c =
     let a = c .before .before .before .before .args in
-    rw (c .before .word-at .ensures) (shape-long 0 (a .frame .now) (c .before .before .if1 .left))
+    rw (c .before .word-at .ensures) (shape-long (a .frame .now) (c .before .before .if1 .left))
 
 pub write-shaped-spec : {M : Type 1} → statement M
 write-shaped-spec =

@@ -25,7 +25,7 @@ shaped : (c : tie.Else1) → writeShaped (c .before .before .before .args .frame
 shaped c = sym (c .before .write-shaped .ensures) ∙ not-false _ (c .if1 .left)
 
 word-at-requires : tie.Need-word-at-requires
-word-at-requires c κs = omega (arith, shaped-length 0 (c .before .before .before .args .frame .now) (shaped (c)) .0)
+word-at-requires c κs = omega (arith, shaped-length (c .before .before .before .args .frame .now) (shaped (c)) .0)
 
 standard-requires : tie.Need-standard-requires
 standard-requires c κs = (shaped (c .before .before), eq-eqb _ _ (sym (c .before .word-at .ensures) ∙ c .match .keys1))

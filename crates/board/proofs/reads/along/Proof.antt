@@ -3,14 +3,13 @@ use mathlib.Core.Path.{_≡_, ap, _∙_}
 use mathlib.Core.List.{List}
 use Prim.Native.Nat.{ℕ}
 use native.Mathlib.Omega.{arith}
-use lib.ListN.{length, take}
-use lib.Seq.{sets, take-all}
+use lib.ListN.{length}
+use lib.Seq.{sets}
 use Rattle.directory.specs.declared.Span.{Span}
 use Rattle.directory.specs.declared.Span.the-variants.{Items, Error}
 use Rattle.directory.specs.declared.Item.{Item}
-use Rattle.directory.specs.Item.{items}
 use Rattle.directory.specs.Table.{directory}
-use Rattle.directory.proofs.Rules.{directory-ruled, directory-rules}
+use Rattle.directory.proofs.Rules.{directory-ruled, directory-rules, directory-room, directory-whole}
 use Rattle.modbus.specs.Read.{readIn}
 use Rattle.meter.specs.declared.Meter.{Meter}
 use Rattle.board.specs.Reads.{readBytes, readReply}
@@ -22,19 +21,15 @@ use Rattle.board.proofs.reads.along.Tie as tie
 replied : (m : Meter) (frame buffer : List ℕ) (span : Span) {k : ℕ} {after : List ℕ} → readIn directory frame ≡ span → (k ≡ length (readBytes m frame span)) × (after ≡ sets buffer 0 (readBytes m frame span)) → (k ≡ length (readReply m frame)) × (after ≡ sets buffer 0 (readReply m frame))
 replied m frame buffer span e h = rw e h
 
--- the whole table is seen
-seen : (s : tie.Start) → take 142 (items (s .args .t .now)) ≡ directory
-seen s = ap (take 142) (s .pre .0 .1) ∙ take-all 142 directory (omega (arith, directory-rules .count))
-
 judged : (r : tie.After-read-in) → r .read-in .result ≡ readIn directory (r .before .before .before .before .args .frame .now)
 judged r =
     let s = r .before .before .before .before in
-    r .read-in .ensures ∙ ap (λ (dir : List Item). readIn dir (s .args .frame .now)) (seen s)
+    r .read-in .ensures ∙ ap (λ (dir : List Item). readIn dir (s .args .frame .now)) (directory-whole (s .args .t .now) (s .pre .0))
 
 read-in-requires : tie.Need-read-in-requires
 read-in-requires c κs =
     let s = c .before .before .before in
-    (s .pre .0 .0, rw (s .pre .0 .1) directory-ruled)
+    (omega (arith, directory-room (s .args .t .now) (s .pre .0), directory-rules .count), rw (s .pre .0) directory-ruled)
 
 enum-known-code : tie.Need-enum-known-code
 enum-known-code c = search needs

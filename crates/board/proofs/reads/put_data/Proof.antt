@@ -6,27 +6,20 @@ use native.Mathlib.Omega.{arith}
 use lib.ListN.{length, length-set}
 use lib.Seq.{sets, length-sets}
 use borrow.Author.Needs.{needs}
+use Rattle.crc.proofs.Laws.{length-sealed}
 use Rattle.directory.specs.declared.Span.the-variants.{Items}
 use Rattle.directory.specs.Table.{directory}
-use Rattle.directory.specs.Run.{runItems, wordsOf}
-use Rattle.directory.proofs.Rules.{directory-ruled}
-use Rattle.directory.proofs.Sends.{run-sends}
+use Rattle.directory.specs.Run.{runItems}
 use Rattle.modbus.specs.Frame.{addressOf, functionOf, wordNumber}
-use Rattle.modbus.proofs.Judged.{Asks, asks}
-use Rattle.modbus.proofs.Stores.{seals, length-sealed}
+use Rattle.modbus.proofs.Judged.{LegalRead, legal-read}
+use Rattle.modbus.proofs.Stores.{seals}
 use Rattle.board.specs.Reads.{itemsSent, readBytes}
 use Rattle.board.proofs.Sent.{length-items}
 use Rattle.board.proofs.reads.put_data.Statement.{statement}
 use Rattle.board.proofs.reads.put_data.Tie as tie
 
-asked : (s : tie.Start) → Asks directory (s .args .frame .now) (s .args .first) (s .args .count)
-asked s = asks directory (s .args .frame .now) (s .args .first) (s .args .count) (s .pre .1 .1 .0)
-
-inside : (s : tie.Start) → s .args .first + s .args .count ≤ length directory
-inside s = run-sends .inside directory _ _ (s .args .first) (s .args .count) directory-ruled (asked s .run)
-
-sends : (s : tie.Start) → wordsOf (runItems directory (s .args .first) (s .args .count)) ≡ wordNumber (s .args .frame .now)
-sends s = run-sends .sends directory _ _ (s .args .first) (s .args .count) directory-ruled (asked s .run)
+asked : (s : tie.Start) → LegalRead (s .args .frame .now) (s .args .first) (s .args .count)
+asked s = legal-read (s .pre .1 .1 .0)
 
 shared-slice-read-buffer : tie.Need-shared-slice-read-buffer
 shared-slice-read-buffer c = omega (arith, asked (c .before .before .before .before) .long)
@@ -55,7 +48,7 @@ slice-write-buffer-3 c = simp length-set (omega arith)
 put-items-requires : tie.Need-put-items-requires
 put-items-requires c κs =
     let s = c .before .before .before .before .before .before .before in
-    (s .pre .0, (s .pre .1 .0, (inside s, (omega (arith, sends s, asked s .most), simp length-set (omega (arith, s .pre .1 .1 .1))))))
+    (s .pre .0, (s .pre .1 .0, (asked s .inside, (omega (arith, asked s .sends, asked s .most), simp length-set (omega (arith, s .pre .1 .1 .1))))))
 
 put-requires : tie.Need-put-requires
 put-requires c κs = tt
@@ -80,7 +73,7 @@ long p =
     omega (arith, length-items (s .args .m) (runItems directory (s .args .first) (s .args .count)), p .put-items .ensures .0)
 
 room : (p : tie.After-put-items) → p .put-items .result + 2 ≤ length (start p .args .buffer .now)
-room p = let s = start p in omega (arith, p .put-items .ensures .0, sends s, asked s .most, s .pre .1 .1 .1)
+room p = let s = start p in omega (arith, p .put-items .ensures .0, asked s .sends, asked s .most, s .pre .1 .1 .1)
 
 stored : (p : tie.After-put-items) → p .put-items .last .1 .1 .1 .1 .0 ≡ sets (start p .args .buffer .now) 0 (bytes (start p))
 stored p =
@@ -93,7 +86,7 @@ returns : tie.Need-returns
 returns c =
     let p = c .before .before .before .before .before .before in
     let s = start p in
-    (length-sealed (bytes s) (p .put-items .result) (long p), seals (s .args .buffer .now) (bytes s) (p .put-items .result) _ _ _ (long p) (room p) (stored p) (c .before .before .put .ensures))
+    (omega (arith, long p, length-sealed (bytes s)), seals (s .args .buffer .now) (bytes s) (p .put-items .result) _ _ _ (long p) (room p) (stored p) (c .before .before .put .ensures))
 
 same-length : tie.Need-same-length
 same-length c =

@@ -11,8 +11,8 @@ use Rattle.directory.specs.declared.Item.{Item}
 use Rattle.directory.specs.Item.{none}
 use Rattle.directory.specs.Table.{directory}
 use Rattle.directory.specs.Run.{runItems, wordsOf}
-use Rattle.directory.proofs.Order.{Narrow, ruled-narrow}
-use Rattle.directory.proofs.Rules.{directory-ruled, directory-rules}
+use Rattle.directory.proofs.Order.{Narrow}
+use Rattle.directory.proofs.Rules.{directory-rules, directory-room, directory-item}
 use Rattle.registers.specs.Shown.{shownOf}
 use Rattle.board.specs.Reads.{itemsSent}
 use Rattle.board.proofs.Sent.{left, left-all, left-none, words-on, sent-on}
@@ -40,25 +40,19 @@ add-item-at c = omega (arith, directory-rules .count, c .before .before .before 
 item-at-requires : tie.Need-item-at-requires Inv-loop μ-loop
 item-at-requires c κs =
     let s = c .before .before .before .before in
-    omega (arith, s .pre .0 .0, s .pre .1 .1 .0, directory-rules .count)
+    omega (arith, directory-room (s .args .t .now) (s .pre .0), s .pre .1 .1 .0)
 
--- it is the directory's
-item-is : (r : tie.After-item-at Inv-loop μ-loop) → r .item-at .result ≡ getD directory (r .before .before .before .before .before .args .first + r .before .before .loop .i) none
-item-is r =
+-- it is the directory's, and sends one word or two
+found : (r : tie.After-item-at Inv-loop μ-loop) → (r .item-at .result ≡ getD directory (r .before .before .before .before .before .args .first + r .before .before .loop .i) none) × Narrow (r .item-at .result)
+found r =
     let s = r .before .before .before .before .before in
-    r .item-at .ensures ∙ ap (λ (its : List Item). getD its (s .args .first + r .before .before .loop .i) none) (s .pre .0 .1)
-
--- the item of this turn sends one word or two
-narrow : (r : tie.After-item-at Inv-loop μ-loop) → Narrow (r .item-at .result)
-narrow r =
-    let s = r .before .before .before .before .before in
-    rw (item-is r) (ruled-narrow directory directory-ruled (s .args .first + r .before .before .loop .i) (omega (arith, s .pre .1 .1 .0)))
+    directory-item (s .args .t .now) (s .pre .0) (s .args .first + r .before .before .loop .i) (omega (arith, s .pre .1 .1 .0)) (r .item-at .ensures)
 
 -- and its words come off those that are left
 passed : (r : tie.After-item-at Inv-loop μ-loop) → wordsOf (left directory (r .before .before .before .before .before .args .first) (r .before .before .before .before .before .args .count) (r .before .before .loop .i)) ≡ r .item-at .result .words + wordsOf (left directory (r .before .before .before .before .before .args .first) (r .before .before .before .before .before .args .count) (r .before .before .loop .i + 1))
 passed r =
     let s = r .before .before .before .before .before in
-    rw (item-is r) (words-on directory (s .args .first) (s .args .count) (r .before .before .loop .i) (omega arith) (s .pre .1 .1 .0))
+    rw (found r .0) (words-on directory (s .args .first) (s .args .count) (r .before .before .loop .i) (omega arith) (s .pre .1 .1 .0))
 
 cast-put : tie.Need-cast-put Inv-loop μ-loop
 cast-put c = search needs
@@ -70,7 +64,7 @@ put-requires : tie.Need-put-requires Inv-loop μ-loop
 put-requires c κs =
     let r = c .before .before .before in
     let l = r .before .before .loop in
-    (omega (arith, passed r, l .inv .1, l .inv .2, r .before .before .before .before .before .pre .1 .1 .1 .0, r .before .before .before .before .before .pre .1 .1 .1 .1), (narrow r .some, narrow r .few))
+    (omega (arith, passed r, l .inv .1, l .inv .2, r .before .before .before .before .before .pre .1 .1 .1 .0, r .before .before .before .before .before .pre .1 .1 .1 .1), (found r .1 .some, found r .1 .few))
 
 cast-at : tie.Need-cast-at Inv-loop μ-loop
 cast-at c = search needs
@@ -99,7 +93,7 @@ loop-again c =
     let it = r .item-at .result in
     let wrote : p .put .last .0 ≡ sets (l .buffer) (l .at) (sent (it .words) (shownOf (s .args .m) (it .quantity))) =
     p .put .ensures ∙ ap (λ (v : ℕ). sets (l .buffer) (l .at) (sent (it .words) v)) (p .before .shown .ensures) in
-    (omega arith, ap length wrote ∙ length-sets (l .buffer) (l .at) (sent (it .words) (shownOf (s .args .m) (it .quantity))) ∙ l .inv .1, omega (arith, passed r, l .inv .2), sent-on directory (s .args .first) (s .args .count) (l .i) (omega arith) (s .pre .1 .1 .0) (s .args .m) (l .buffer) _ (l .at) it (item-is r) wrote ∙ l .inv .3)
+    (omega arith, ap length wrote ∙ length-sets (l .buffer) (l .at) (sent (it .words) (shownOf (s .args .m) (it .quantity))) ∙ l .inv .1, omega (arith, passed r, l .inv .2), sent-on directory (s .args .first) (s .args .count) (l .i) (omega arith) (s .pre .1 .1 .0) (s .args .m) (l .buffer) _ (l .at) it (found r .0) wrote ∙ l .inv .3)
 
 same-length : tie.Need-same-length Inv-loop μ-loop
 same-length c = c .before .loop .inv .1

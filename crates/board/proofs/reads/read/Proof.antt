@@ -1,6 +1,5 @@
 -- The flat table, read four numbers at a time, is the directory.
 use mathlib.Core.Path.{refl}
-use native.Mathlib.Omega.{arith}
 use borrow.Author.Needs.{needs}
 use Rattle.directory.specs.Item.{items}
 use Rattle.directory.specs.Table.{directory}
@@ -14,7 +13,7 @@ along-requires : tie.Need-along-requires
 unfolding directory items
 along-requires c κs =
     let s = c .before .before .before .before in
-    ((omega arith, refl), s .pre)
+    (refl, s .pre)
 
 same-length : tie.Need-same-length
 same-length c = search needs

@@ -1,11 +1,10 @@
 -- A reply has 256 bytes at the most.
-use mathlib.Core.Path.{_≡_, sym, ap, _∙_}
+use mathlib.Core.Path.{_≡_, sym}
 use native.Mathlib.Omega.{arith}
 use Prim.Native.Nat.{_≤_}
 use lib.Seq.{length-take-le}
-use Rattle.board.specs.declared.Handled.{Handled}
 use Rattle.board.specs.declared.Reply.the-variants.{Sent}
-use Rattle.board.proofs.Answers.{replies-sealed}
+use Rattle.board.proofs.Answers.{reply-long}
 use borrow.Author.Needs.{needs}
 use Rattle.cost.proofs.readings.collected.Statement.{statement}
 use Rattle.cost.proofs.readings.collected.Tie as tie
@@ -14,7 +13,7 @@ sent : (c : tie.After-did) → c .did .given .0 .0 ≤ 256
 sent c =
     let h = c .before .before .before .handle in
     let e : h .result .reply ≡ Sent (c .did .given .0 .0) = cc in
-    replies-sealed .long _ _ _ _ (ap (λ (x : Handled). x .reply) (sym (h .ensures .0)) ∙ e)
+    reply-long _ _ _ (h .ensures .0) e
 
 new-requires : tie.Need-new-requires
 new-requires c κs = search needs
