@@ -18,7 +18,7 @@ use Rattle.ratio.specs.Powers.{signWord}
 use Rattle.ratio.proofs.Powers.{powers-fit}
 use Rattle.counts.proofs.Joins.{counts-fit}
 use Rattle.directory.specs.declared.Item.{Item}
-use Rattle.directory.specs.Item.{none}
+use Rattle.directory.specs.Item.{none, inBytes}
 use Rattle.directory.specs.Table.{directory}
 use Rattle.directory.specs.Order.{roomOf}
 use Rattle.meter.specs.declared.Meter.{Meter}
@@ -42,7 +42,7 @@ use Rattle.demands.specs.Meaning.{cut, powerMeanings, signedMeanings, co
 
 -- what has room in a B leaves the upper byte clear
 upper-clear : (it : Item) (v : ℕ) → v < 256 ^ roomOf it → (isB it && leb 256 v) ≡ false
-upper-clear it v h = by (ltb (it .start) 0x1000) (eqb (it .fills) 1) refl h
+upper-clear it v h = by (inBytes it) (eqb (it .fills) 1) refl h
   where
     by : (a b : Bool) → eqb (it .fills) 1 ≡ b → v < 256 ^ cond a (it .fills) (2 * it .words) → ((a && b) && leb 256 v) ≡ false
     by true true e h = lt-leb 256 v (rw (eqb-true (it .fills) 1 e) at h)

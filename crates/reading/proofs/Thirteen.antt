@@ -9,6 +9,8 @@ use lib.Dec.{leb, ltb, eqb}
 use lib.ListN.{getD}
 use borrow.Author.Tests.{leb-true, leb-false, eqb-true, eqb-false, lt-ltb, le-ltb}
 use Rattle.words.specs.Signed.{magnitudeIn}
+use Rattle.ratio.specs.Ratios.{ktaOk, ktvOk}
+use Rattle.counts.specs.Energies.{topCount, topLow, topHigh}
 use Rattle.directory.specs.declared.Item.{Item}
 use Rattle.directory.specs.Item.{none}
 use Rattle.directory.specs.Run.{isL}
@@ -71,7 +73,7 @@ one-or-two v = by (eqb v 1) (eqb v 2) refl refl
 abbrev row : ℕ → Bool → Bool → ℕ → Bool
 row k b l v =
     oneOf
-    ((b && leb 256 v) ∷ (eqb k 10 && ltb 1 v) ∷ (eqb k 11 && ltb 2 v) ∷ (eqb k 15 && not (eqb v 1 || eqb v 2)) ∷ (eqb k 5 && ltb 99999999 v) ∷ (eqb k 6 && ltb 999999 v) ∷ (eqb k 7 && ltb 65535999 v) ∷ (eqb k 9 && cond l (ltb 1000 (magnitudeIn 2 v)) (ltb 100 (magnitudeIn 1 v))) ∷ (eqb k 13 && not (leb 1 v && leb v 9999)) ∷ (eqb k 14 && not (leb 10 v && leb v 9999)) ∷ [])
+    ((b && leb 256 v) ∷ (eqb k 10 && ltb 1 v) ∷ (eqb k 11 && ltb 2 v) ∷ (eqb k 15 && not (eqb v 1 || eqb v 2)) ∷ (eqb k 5 && ltb topCount v) ∷ (eqb k 6 && ltb topLow v) ∷ (eqb k 7 && ltb topHigh v) ∷ (eqb k 9 && cond l (ltb 1000 (magnitudeIn 2 v)) (ltb 100 (magnitudeIn 1 v))) ∷ (eqb k 13 && not (ktaOk v)) ∷ (eqb k 14 && not (ktvOk v)) ∷ [])
 
 -- an L, by kind; there is no L of a wrap
 module _ (t w v : ℕ) where
@@ -89,11 +91,11 @@ module _ (t w v : ℕ) where
         (
           λ h. reads-always (SignedPower (signedIn 2 v)),
           (
-            λ h. reads-when (leb v 99999999) _ (counted t v) (over v 99999999),
+            λ h. reads-when (leb v topCount) _ (counted t v) (over v topCount),
             (
-              λ h. reads-when (leb v 999999) _ (Low v) (over v 999999),
+              λ h. reads-when (leb v topLow) _ (Low v) (over v topLow),
               (
-                λ h. reads-when (leb v 65535999) _ (High v) (over v 65535999),
+                λ h. reads-when (leb v topHigh) _ (High v) (over v topHigh),
                 (
                   λ h. absurd (h refl),
                   (λ h. reads-when (leb (magnitudeIn 2 v) 1000) _ (Factor (signedIn 2 v)) (over (magnitudeIn 2 v) 1000), tt),
@@ -115,7 +117,7 @@ module _ (b : Bool) (v : ℕ) where
   unfolding oneOf
   short-rows =
       let u = upper (b && leb 256 v) in
-      (u _ _ (reads-always (Wrap v)), (u _ _ (reads-when (leb (magnitudeIn 1 v) 100) _ (Factor (times 10 (signedIn 1 v))) (over (magnitudeIn 1 v) 100)), (u _ _ (reads-when (leb v 1) _ (Sign v) (over v 1)), (u _ _ (reads-when (leb v 2) _ (Sector v) (over v 2)), (u _ _ (reads-always (Frequency v)), (u _ _ (reads-when (leb 1 v && leb v 9999) _ (Kta v) (or-none _)), (u _ _ (reads-when (leb 10 v && leb v 9999) _ (Ktv v) (or-none _)), (u _ _ (reads-when (leb 1 v && leb v 2) _ (Sequence v) (or-none _ ∙ ap not (one-or-two v))), (u _ _ (reads-always (Plain v)), tt)))))))))
+      (u _ _ (reads-always (Wrap v)), (u _ _ (reads-when (leb (magnitudeIn 1 v) 100) _ (Factor (times 10 (signedIn 1 v))) (over (magnitudeIn 1 v) 100)), (u _ _ (reads-when (leb v 1) _ (Sign v) (over v 1)), (u _ _ (reads-when (leb v 2) _ (Sector v) (over v 2)), (u _ _ (reads-always (Frequency v)), (u _ _ (reads-when (ktaOk v) _ (Kta v) (or-none _)), (u _ _ (reads-when (ktvOk v) _ (Ktv v) (or-none _)), (u _ _ (reads-when (leb 1 v && leb v 2) _ (Sequence v) (or-none _ ∙ ap not (one-or-two v))), (u _ _ (reads-always (Plain v)), tt)))))))))
 
 -- ---- an item
 
@@ -177,11 +179,11 @@ numbered-at k (a ∷ l) h (suc i) = numbered (numbered-at (suc k) l (h .1) i) (o
 
 long-numbers : (t w v : ℕ) → Numbered 0 (longs t w v)
 long-numbers t w v =
-    (reads-none 0, (reads-kind _, (reads-kind _, (reads-kind _, (reads-kind _, (reads-if (leb v 99999999) (counted t v), (reads-if (leb v 999999) (Low v), (reads-if (leb v 65535999) (High v), (reads-none 8, (reads-if (leb (magnitudeIn 2 v) 1000) (Factor (signedIn 2 v)), tt))))))))))
+    (reads-none 0, (reads-kind _, (reads-kind _, (reads-kind _, (reads-kind _, (reads-if (leb v topCount) (counted t v), (reads-if (leb v topLow) (Low v), (reads-if (leb v topHigh) (High v), (reads-none 8, (reads-if (leb (magnitudeIn 2 v) 1000) (Factor (signedIn 2 v)), tt))))))))))
 
 short-numbers : (v : ℕ) → Numbered 0 (shorts v)
 short-numbers v =
-    (reads-none 0, (reads-none 1, (reads-none 2, (reads-none 3, (reads-none 4, (reads-none 5, (reads-none 6, (reads-none 7, (reads-kind _, (reads-if (leb (magnitudeIn 1 v) 100) (Factor (times 10 (signedIn 1 v))), (reads-if (leb v 1) (Sign v), (reads-if (leb v 2) (Sector v), (reads-kind _, (reads-if (leb 1 v && leb v 9999) (Kta v), (reads-if (leb 10 v && leb v 9999) (Ktv v), (reads-if (leb 1 v && leb v 2) (Sequence v), (reads-kind _, tt)))))))))))))))))
+    (reads-none 0, (reads-none 1, (reads-none 2, (reads-none 3, (reads-none 4, (reads-none 5, (reads-none 6, (reads-none 7, (reads-kind _, (reads-if (leb (magnitudeIn 1 v) 100) (Factor (times 10 (signedIn 1 v))), (reads-if (leb v 1) (Sign v), (reads-if (leb v 2) (Sector v), (reads-kind _, (reads-if (ktaOk v) (Kta v), (reads-if (ktvOk v) (Ktv v), (reads-if (leb 1 v && leb v 2) (Sequence v), (reads-kind _, tt)))))))))))))))))
 
 pub item-entry : (t : ℕ) (it : Item) (v : ℕ) → Entry (it .quantity / 64) (readingOf t it v)
 unfolding longOf wordOf

@@ -5,6 +5,7 @@ use native.Mathlib.Nat.{mul-le-mul}
 use native.Mathlib.Omega.{arith}
 use lib.Dec.{leb}
 use Rattle.signed.specs.declared.Signed.{Signed}
+use Rattle.counts.specs.Energies.{topCount}
 use Rattle.reading.specs.declared.Answer.the-variants.{Reading}
 use Rattle.reading.specs.declared.Quantity.the-variants.{Power, SignedPower, Factor}
 use Rattle.reading.specs.Readings.{when, times, signedIn}
@@ -72,7 +73,7 @@ returns-5 : tie.Need-returns-5
 returns-5 c =
     let s = c .before .before .before in
     c .when .ensures
-    ∙ ap (when (leb (s .args .value) 99999999)) (c .before .energy .ensures)
+    ∙ ap (when (leb (s .args .value) topCount)) (c .before .energy .ensures)
     ∙ sym (long-kind (s .args .t) (s .args .quantity) (s .args .value) 5 (c .before .before .match .keys5))
 
 returns-6 : tie.Need-returns-6
