@@ -1,13 +1,13 @@
 -- Refusal 13, kind by kind: what stands beside a reading in the list is what the row says of its kind.
 use mathlib.Core.Path.{_≡_, refl, sym, ap, _∙_}
 use mathlib.Core.Logic.{_↔_}
-use mathlib.Core.Bool.{Bool, true, false, _&&_, _||_, not, cond, false≢true}
+use mathlib.Core.Bool.{Bool, true, false, _&&_, _||_, not, cond, false≢true, or-false}
 use mathlib.Core.List.{List, [], _∷_}
 use Prim.Native.Nat.{ℕ, zero, suc, _+_, _*_, _/_, _%_}
 use native.Mathlib.Omega.{arith}
 use lib.Dec.{leb, ltb, eqb}
 use lib.ListN.{getD}
-use borrow.Author.Tests.{leb-true, leb-false, eqb-true, eqb-false, lt-ltb, le-ltb}
+use borrow.Author.Tests.{leb-true, leb-false, lt-ltb, le-ltb}
 use Rattle.words.specs.Signed.{magnitudeIn}
 use Rattle.ratio.specs.Ratios.{ktaOk, ktvOk}
 use Rattle.counts.specs.Energies.{topCount, topLow, topHigh}
@@ -51,23 +51,6 @@ over v top = by (leb v top) refl
     by : (t : Bool) → leb v top ≡ t → (ltb top v || false) ≡ not t
     by true e = rw (le-ltb top v (leb-true v top e)) refl
     by false e = rw (lt-ltb top v (leb-false v top e)) refl
-
-or-none : (x : Bool) → (x || false) ≡ x
-or-none true = refl
-or-none false = refl
-
-one-or-two : (v : ℕ) → (eqb v 1 || eqb v 2) ≡ (leb 1 v && leb v 2)
-one-or-two v = by (eqb v 1) (eqb v 2) refl refl
-  where
-    by : (a b : Bool) → eqb v 1 ≡ a → eqb v 2 ≡ b → (a || b) ≡ (leb 1 v && leb v 2)
-    by true b e f = rw (eqb-true v 1 e) refl
-    by false true e f = rw (eqb-true v 2 f) refl
-    by false false e f = below (leb 1 v) (leb v 2) refl refl
-      where
-        below : (a b : Bool) → leb 1 v ≡ a → leb v 2 ≡ b → false ≡ (a && b)
-        below false b g h = refl
-        below true false g h = refl
-        below true true g h = absurd (omega (arith, leb-true 1 v g, leb-true v 2 h, eqb-false v 1 e, eqb-false v 2 f))
 
 -- the row by kind, for an item that is or is not a B, and is or is not an L
 abbrev row : ℕ → Bool → Bool → ℕ → Bool
@@ -117,7 +100,7 @@ module _ (b : Bool) (v : ℕ) where
   unfolding oneOf
   short-rows =
       let u = upper (b && leb 256 v) in
-      (u _ _ (reads-always (Wrap v)), (u _ _ (reads-when (leb (magnitudeIn 1 v) 100) _ (Factor (times 10 (signedIn 1 v))) (over (magnitudeIn 1 v) 100)), (u _ _ (reads-when (leb v 1) _ (Sign v) (over v 1)), (u _ _ (reads-when (leb v 2) _ (Sector v) (over v 2)), (u _ _ (reads-always (Frequency v)), (u _ _ (reads-when (ktaOk v) _ (Kta v) (or-none _)), (u _ _ (reads-when (ktvOk v) _ (Ktv v) (or-none _)), (u _ _ (reads-when (leb 1 v && leb v 2) _ (Sequence v) (or-none _ ∙ ap not (one-or-two v))), (u _ _ (reads-always (Plain v)), tt)))))))))
+      (u _ _ (reads-always (Wrap v)), (u _ _ (reads-when (leb (magnitudeIn 1 v) 100) _ (Factor (times 10 (signedIn 1 v))) (over (magnitudeIn 1 v) 100)), (u _ _ (reads-when (leb v 1) _ (Sign v) (over v 1)), (u _ _ (reads-when (leb v 2) _ (Sector v) (over v 2)), (u _ _ (reads-always (Frequency v)), (u _ _ (reads-when (ktaOk v) _ (Kta v) (or-false _)), (u _ _ (reads-when (ktvOk v) _ (Ktv v) (or-false _)), (u _ _ (reads-when (eqb v 1 || eqb v 2) _ (Sequence v) (or-false _)), (u _ _ (reads-always (Plain v)), tt)))))))))
 
 -- ---- an item
 
@@ -183,7 +166,7 @@ long-numbers t w v =
 
 short-numbers : (v : ℕ) → Numbered 0 (shorts v)
 short-numbers v =
-    (reads-none 0, (reads-none 1, (reads-none 2, (reads-none 3, (reads-none 4, (reads-none 5, (reads-none 6, (reads-none 7, (reads-kind _, (reads-if (leb (magnitudeIn 1 v) 100) (Factor (times 10 (signedIn 1 v))), (reads-if (leb v 1) (Sign v), (reads-if (leb v 2) (Sector v), (reads-kind _, (reads-if (ktaOk v) (Kta v), (reads-if (ktvOk v) (Ktv v), (reads-if (leb 1 v && leb v 2) (Sequence v), (reads-kind _, tt)))))))))))))))))
+    (reads-none 0, (reads-none 1, (reads-none 2, (reads-none 3, (reads-none 4, (reads-none 5, (reads-none 6, (reads-none 7, (reads-kind _, (reads-if (leb (magnitudeIn 1 v) 100) (Factor (times 10 (signedIn 1 v))), (reads-if (leb v 1) (Sign v), (reads-if (leb v 2) (Sector v), (reads-kind _, (reads-if (ktaOk v) (Kta v), (reads-if (ktvOk v) (Ktv v), (reads-if (eqb v 1 || eqb v 2) (Sequence v), (reads-kind _, tt)))))))))))))))))
 
 pub item-entry : (t : ℕ) (it : Item) (v : ℕ) → Entry (it .quantity / 64) (readingOf t it v)
 unfolding longOf wordOf

@@ -1,9 +1,9 @@
 -- Paper 01, "Collector": what the words of an item read as, kind by kind in the order of its list, in its units; and beside each
 -- reading what makes its value impossible (refusal 13).
 use Prim.Native.Nat.{ℕ, _*_, _/_, _%_}
-use mathlib.Core.Bool.{Bool, _&&_, cond}
+use mathlib.Core.Bool.{Bool, _&&_, _||_, cond}
 use mathlib.Core.List.{List, [], _∷_, _++_}
-use lib.Dec.{leb, ltb, eqb}
+use lib.Dec.{leb, eqb}
 use lib.ListN.{getD, replicate}
 use Rattle.refusal.specs.declared.Refusal.the-variants.{ValueImpossible}
 use Rattle.signed.specs.declared.Signed.{Signed}
@@ -78,7 +78,7 @@ shorts v =
     -- KTA or KTV item out of limits; sequence not 1 or 2: not so; plain word
     when (ktaOk v) (Kta v) ∷
     when (ktvOk v) (Ktv v) ∷
-    when (leb 1 v && leb v 2) (Sequence v) ∷
+    when (eqb v 1 || eqb v 2) (Sequence v) ∷
     Reading (Plain v) ∷
     [])
 
