@@ -1,7 +1,7 @@
 -- What a meter shows of an item is read as what it means: an argument for each kind, and the directory's items come under them by one
 -- computed test.
 use mathlib.Core.Path.{_≡_, refl, sym, ap, _∙_}
-use mathlib.Core.Bool.{Bool, true, false, _&&_, cond, and-eq-true-iff}
+use mathlib.Core.Bool.{Bool, true, false, _&&_, cond}
 use mathlib.Core.List.{List, [], _∷_, map}
 use Prim.Native.Nat.{ℕ, zero, suc, _*_, _/_, _%_, _^_, _≤_, _<_, zero-le}
 use native.Mathlib.Nat.{lt-of-le-of-lt}
@@ -14,8 +14,7 @@ use Rattle.signed.specs.Signs.{negative, signedOf}
 use Rattle.signed.specs.declared.Signed.{Signed}
 use Rattle.words.specs.Signed.{twos}
 use Rattle.words.proofs.Signs.{signed-back}
-use Rattle.ratio.specs.Powers.{signWord}
-use Rattle.ratio.proofs.Powers.{powers-fit}
+use Rattle.ratio.proofs.Powers.{powers-fit, sign-most}
 use Rattle.counts.proofs.Joins.{counts-fit}
 use Rattle.directory.specs.declared.Item.{Item}
 use Rattle.directory.specs.Item.{none, inBytes}
@@ -24,8 +23,7 @@ use Rattle.directory.specs.Order.{roomOf}
 use Rattle.meter.specs.declared.Meter.{Meter}
 use Rattle.meter.specs.Samples.{factorOf}
 use Rattle.meter.specs.Meters.{meterT, meterOk, energyAt}
-use Rattle.meter.proofs.Tests.{both}
-use Rattle.meter.proofs.Parts.{SampleParts, sample-parts, meter-parts}
+use Rattle.meter.proofs.Parts.{SampleParts, sample-parts, meter-parts, ratio-parts}
 use Rattle.registers.specs.Shown.{powersOf, powerAt, powerValues, signedValues, signValues, countValues, lowValues, highValues, wrapValues, factorValues, plainValues, valuesOf, shownOf}
 use Rattle.registers.proofs.Values.{count-at, low-at, high-at, energy-most, signed-at, sign-at, power-most}
 use Rattle.registers.proofs.Widths.{Shows, in-room, typed-shows}
@@ -85,10 +83,6 @@ signed-limited f n top negative x small within =
 unsigned-zero : (z : ℤ) → unsignedZero (negative z) (natAbs z) ≡ signedOf z
 unsigned-zero (pos n) = refl
 unsigned-zero (negsuc n) = ap (λ (t : Bool). record { negative = t; magnitude = suc n }) (lt-ltb 0 (suc n) (omega arith))
-
-sign-most : (negative : Bool) → signWord negative ≤ 1
-sign-most true = omega arith
-sign-most false = omega arith
 
 -- ---- kind by kind
 
@@ -164,17 +158,14 @@ module _ (m : Meter) (h : meterOk m ≡ true) where
   frequency-read : ReadKind m 12
   frequency-read = few m 12 1 (refl, tt)
 
-  ratios-within : ((leb 1 (m .ratios .kta) && leb (m .ratios .kta) 9999) ≡ true) × ((leb 10 (m .ratios .ktv) && leb (m .ratios .ktv) 9999) ≡ true)
-  ratios-within = both (leb 1 (m .ratios .kta) && leb (m .ratios .kta) 9999) (leb 10 (m .ratios .ktv) && leb (m .ratios .ktv) 9999) (meter-parts m h .ratios)
-
   kta-read : ReadKind m 13
-  kta-read = few m 13 1 (possible (ratios-within .0), tt)
+  kta-read = few m 13 1 (possible (ratio-parts m h .0), tt)
 
   ktv-read : ReadKind m 14
-  ktv-read = few m 14 1 (possible (ratios-within .1), tt)
+  ktv-read = few m 14 1 (possible (ratio-parts m h .1), tt)
 
   sequence-read : ReadKind m 15
-  sequence-read = few m 15 1 (possible (and-eq-true-iff _ _ .1 (le-leb _ _ (parts .sequence .0), le-leb _ _ (parts .sequence .1))), tt)
+  sequence-read = few m 15 1 (possible (parts .sequence), tt)
 
   plains-read : ReadKind m 16
   plains-read w b = alike read.Plain (plainValues m) w b refl

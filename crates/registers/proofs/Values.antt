@@ -1,6 +1,6 @@
 -- The lists of values, taken at an index: what is mapped over a list is the function of the list's element there.
 use mathlib.Core.Path.{_≡_, refl, sym, ap, _∙_}
-use mathlib.Core.Bool.{Bool, true, false}
+use mathlib.Core.Bool.{Bool, true, false, and-eq-true-iff}
 use mathlib.Core.List.{List, [], _∷_, _++_, map}
 use Prim.Native.Nat.{ℕ, zero, suc, _+_, _-_, _*_, _/_, _%_, _≤_, zero-le}
 use native.Mathlib.Nat.{zero-div}
@@ -17,7 +17,6 @@ use Rattle.meter.specs.declared.energies.Energy.{Energy}
 use Rattle.meter.specs.declared.Meter.{Meter}
 use Rattle.meter.specs.Energies.{energyOk}
 use Rattle.meter.specs.Meters.{meterT, meterOk, energiesOf, energyAt}
-use Rattle.meter.proofs.Tests.{both}
 use Rattle.meter.proofs.Parts.{meter-parts, sample-parts, phases-most, powers-phases, powers-sum, energy-top}
 use Rattle.registers.specs.Shown.{powersOf, powerAt, powerValues, signedValues, signValues, countValues, lowValues, highValues, wrapValues, plainValues, valuesOf, shownOf}
 
@@ -45,10 +44,10 @@ module _ (m : Meter) (which : ℕ) where
 
 -- an energy of a meter within limits is within its own, and at most its top
 pub energy-within : (m : Meter) (which : ℕ) → meterOk m ≡ true → energyOk (energyAt which m) ≡ true
-energy-within m zero h = both (energyOk (m .active .positive)) (energyOk (m .active .negative)) (meter-parts m h .active) .0
-energy-within m (suc zero) h = both (energyOk (m .active .positive)) (energyOk (m .active .negative)) (meter-parts m h .active) .1
-energy-within m (suc (suc zero)) h = both (energyOk (m .reactive .positive)) (energyOk (m .reactive .negative)) (meter-parts m h .reactive) .0
-energy-within m (suc (suc (suc zero))) h = both (energyOk (m .reactive .positive)) (energyOk (m .reactive .negative)) (meter-parts m h .reactive) .1
+energy-within m zero h = and-eq-true-iff (energyOk (m .active .positive)) (energyOk (m .active .negative)) .0 (meter-parts m h .active) .0
+energy-within m (suc zero) h = and-eq-true-iff (energyOk (m .active .positive)) (energyOk (m .active .negative)) .0 (meter-parts m h .active) .1
+energy-within m (suc (suc zero)) h = and-eq-true-iff (energyOk (m .reactive .positive)) (energyOk (m .reactive .negative)) .0 (meter-parts m h .reactive) .0
+energy-within m (suc (suc (suc zero))) h = and-eq-true-iff (energyOk (m .reactive .positive)) (energyOk (m .reactive .negative)) .0 (meter-parts m h .reactive) .1
 energy-within m (suc (suc (suc (suc which)))) h = refl
 
 pub energy-most : (m : Meter) (which : ℕ) → meterOk m ≡ true → energyAt which m .wh .0 ≤ topWh
