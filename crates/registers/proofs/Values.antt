@@ -7,12 +7,13 @@ use native.Mathlib.Nat.{zero-div}
 use native.Mathlib.Omega.{arith}
 use lib.Dec.{ltb}
 use borrow.Author.Tests.{ltb-true, ltb-false}
-use lib.ListN.{length, getD, List·getD-map, List·getD-append, List·getD-eq-default}
+use lib.ListN.{length, getD, drop, List·getD-map, List·getD-append, List·getD-eq-default}
 use lib.Seq.{getD-append-add}
 use Rattle.signed.specs.declared.Signed.{Signed}
 use Rattle.words.proofs.Signs.{twos-plain}
 use Rattle.ratio.specs.Powers.{powerLimit, powerRegister, signWord, signedPower}
 use Rattle.counts.specs.Energies.{topWh, registerOf, wrapOf, lowOf, highOf}
+use Rattle.directory.proofs.ByKind.{kind-is, none-at}
 use Rattle.meter.specs.declared.energies.Energy.{Energy}
 use Rattle.meter.specs.declared.Meter.{Meter}
 use Rattle.meter.specs.Energies.{energyOk}
@@ -135,36 +136,11 @@ plain-at m (suc (suc (suc k))) h = ap (λ (i : ℕ). getD (m .standard ++ m .out
 
 -- ---- kinds
 
--- a number that is not k is beyond it
-pub onward : {n : ℕ} (k : ℕ) → k ≤ n → (n ≡ k → ⊥) → suc k ≤ n
-onward k h other = omega (arith, h, other)
-
--- the same of a kind, by the first of its quantities
-pub kind-onward : (q k : ℕ) → k ≤ q / 64 → (q - q % 64 ≡ 64 * k → ⊥) → suc k ≤ q / 64
-kind-onward q k h other = onward k h (λ e. other (starts e))
-  where
-    starts : q / 64 ≡ k → q - q % 64 ≡ 64 * k
-    starts e = omega (arith, e)
-
 module _ (m : Meter) (q : ℕ) where
   pub shown-kind : (k : ℕ) → q - q % 64 ≡ 64 * k → shownOf m q ≡ getD (getD (valuesOf m) k []) (q % 64) 0
   unfolding shownOf
-  shown-kind k h = ap (λ (i : ℕ). getD (getD (valuesOf m) i []) (q % 64) 0) is
-    where
-      is : q / 64 ≡ k
-      is = omega (arith, h)
-
-  shown-below : q / 64 ≡ 0 → shownOf m q ≡ 0
-  unfolding shownOf
-  shown-below h = ap (λ (i : ℕ). getD (getD (valuesOf m) i []) (q % 64) 0) h
-
-  shown-beyond : 17 ≤ q / 64 → shownOf m q ≡ 0
-  unfolding shownOf
-  shown-beyond h = ap (λ (l : List ℕ). getD l (q % 64) 0) (List·getD-eq-default (valuesOf m) [] h)
+  shown-kind k h = ap (λ (i : ℕ). getD (getD (valuesOf m) i []) (q % 64) 0) (kind-is q k h)
 
   pub shown-none : (1 ≤ q / 64 → 17 ≤ q / 64) → shownOf m q ≡ 0
-  shown-none h = by (ltb 0 (q / 64)) refl
-    where
-      by : (t : Bool) → ltb 0 (q / 64) ≡ t → shownOf m q ≡ 0
-      by true e = shown-beyond (h (ltb-true 0 (q / 64) e))
-      by false e = shown-below (omega (arith, ltb-false 0 (q / 64) e))
+  unfolding shownOf
+  shown-none beyond = ap (λ (l : List ℕ). getD l (q % 64) 0) (none-at [] 1 (drop 1 (valuesOf m)) (q / 64) beyond)
