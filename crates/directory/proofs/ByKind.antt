@@ -31,3 +31,8 @@ pub none-at : {A : Type 0} (d : A) (n : ℕ) (l : List A) (k : ℕ) → (n ≤ k
 none-at d zero l k h = List·getD-eq-default l d (omega (arith, h zero-le))
 none-at d (suc n) l zero h = refl
 none-at d (suc n) l (suc k) h = none-at d n l k (λ from. omega (arith, h (omega (arith, from))))
+
+-- what is shown of one after the other
+infixr 4 _also_
+pub _also_ : {A B : Type 0} → A → B → A × B
+a also b = (a, b)

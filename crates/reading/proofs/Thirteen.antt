@@ -15,6 +15,7 @@ use Rattle.directory.specs.declared.Item.{Item}
 use Rattle.directory.specs.Item.{none}
 use Rattle.directory.specs.Run.{isL}
 use Rattle.directory.specs.Table.{directory}
+use Rattle.directory.proofs.ByKind.{_also_}
 use Rattle.reading.specs.declared.Quantity.{Quantity}
 use Rattle.reading.specs.declared.Quantity.the-variants.{Voltage, Current, Power, SignedPower, Low, High, Wrap, Factor, Sign, Sector, Frequency, Kta, Ktv, Sequence, Plain}
 use Rattle.reading.specs.declared.Answer.{Answer}
@@ -45,18 +46,29 @@ upper : (u x : Bool) (a : Answer) → RefusedWhen a x → RefusedWhen (cond u im
 upper true x a h = (λ g. refl, λ g. refl)
 upper false x a h = h
 
-over : (v top : ℕ) → (ltb top v || false) ≡ not (leb v top)
-over v top = by (leb v top) refl
+-- a value with a top
+reads-to : (v top : ℕ) (q : Quantity) → RefusedWhen (when (leb v top) q) (ltb top v || false)
+reads-to v top q = by (leb v top) refl
   where
-    by : (t : Bool) → leb v top ≡ t → (ltb top v || false) ≡ not t
-    by true e = rw (le-ltb top v (leb-true v top e)) refl
-    by false e = rw (lt-ltb top v (leb-false v top e)) refl
+    by : (t : Bool) → leb v top ≡ t → RefusedWhen (when t q) (ltb top v || false)
+    by true e = reads-when true _ q (rw (le-ltb top v (leb-true v top e)) refl)
+    by false e = reads-when false _ q (rw (lt-ltb top v (leb-false v top e)) refl)
 
 -- the row by kind, for an item that is or is not a B, and is or is not an L
 abbrev row : ℕ → Bool → Bool → ℕ → Bool
 row k b l v =
     oneOf
-    ((b && leb 256 v) ∷ (eqb k 10 && ltb 1 v) ∷ (eqb k 11 && ltb 2 v) ∷ (eqb k 15 && not (eqb v 1 || eqb v 2)) ∷ (eqb k 5 && ltb topCount v) ∷ (eqb k 6 && ltb topLow v) ∷ (eqb k 7 && ltb topHigh v) ∷ (eqb k 9 && cond l (ltb 1000 (magnitudeIn 2 v)) (ltb 100 (magnitudeIn 1 v))) ∷ (eqb k 13 && not (ktaOk v)) ∷ (eqb k 14 && not (ktvOk v)) ∷ [])
+    ((b && leb 256 v) ∷
+    (eqb k 10 && ltb 1 v) ∷
+    (eqb k 11 && ltb 2 v) ∷
+    (eqb k 15 && not (eqb v 1 || eqb v 2)) ∷
+    (eqb k 5 && ltb topCount v) ∷
+    (eqb k 6 && ltb topLow v) ∷
+    (eqb k 7 && ltb topHigh v) ∷
+    (eqb k 9 && cond l (ltb 1000 (magnitudeIn 2 v)) (ltb 100 (magnitudeIn 1 v))) ∷
+    (eqb k 13 && not (ktaOk v)) ∷
+    (eqb k 14 && not (ktvOk v)) ∷
+    [])
 
 -- an L, by kind; there is no L of a wrap
 module _ (t w v : ℕ) where
@@ -65,31 +77,17 @@ module _ (t w v : ℕ) where
 
   long-rows : Each LongRow 1 9
   unfolding oneOf
-  long-rows = (
-    λ h. reads-always (Voltage v),
-    (
-      λ h. reads-always (Current v),
-      (
-        λ h. reads-always (Power (v * unitOf t w)),
-        (
-          λ h. reads-always (SignedPower (signedIn 2 v)),
-          (
-            λ h. reads-when (leb v topCount) _ (counted t v) (over v topCount),
-            (
-              λ h. reads-when (leb v topLow) _ (Low v) (over v topLow),
-              (
-                λ h. reads-when (leb v topHigh) _ (High v) (over v topHigh),
-                (
-                  λ h. absurd (h refl),
-                  (λ h. reads-when (leb (magnitudeIn 2 v) 1000) _ (Factor (signedIn 2 v)) (over (magnitudeIn 2 v) 1000), tt),
-                ),
-              ),
-            ),
-          ),
-        ),
-      ),
-    ),
-  )
+  long-rows =
+      (λ h. reads-always (Voltage v)) also
+      (λ h. reads-always (Current v)) also
+      (λ h. reads-always (Power (v * unitOf t w))) also
+      (λ h. reads-always (SignedPower (signedIn 2 v))) also
+      (λ h. reads-to v topCount (counted t v)) also
+      (λ h. reads-to v topLow (Low v)) also
+      (λ h. reads-to v topHigh (High v)) also
+      (λ h. absurd (h refl)) also
+      (λ h. reads-to (magnitudeIn 2 v) 1000 (Factor (signedIn 2 v))) also
+      tt
 
 -- a W or B, by kind
 module _ (b : Bool) (v : ℕ) where
@@ -100,7 +98,16 @@ module _ (b : Bool) (v : ℕ) where
   unfolding oneOf
   short-rows =
       let u = upper (b && leb 256 v) in
-      (u _ _ (reads-always (Wrap v)), (u _ _ (reads-when (leb (magnitudeIn 1 v) 100) _ (Factor (times 10 (signedIn 1 v))) (over (magnitudeIn 1 v) 100)), (u _ _ (reads-when (leb v 1) _ (Sign v) (over v 1)), (u _ _ (reads-when (leb v 2) _ (Sector v) (over v 2)), (u _ _ (reads-always (Frequency v)), (u _ _ (reads-when (ktaOk v) _ (Kta v) (or-false _)), (u _ _ (reads-when (ktvOk v) _ (Ktv v) (or-false _)), (u _ _ (reads-when (eqb v 1 || eqb v 2) _ (Sequence v) (or-false _)), (u _ _ (reads-always (Plain v)), tt)))))))))
+      u _ _ (reads-always (Wrap v)) also
+      u _ _ (reads-to (magnitudeIn 1 v) 100 (Factor (times 10 (signedIn 1 v)))) also
+      u _ _ (reads-to v 1 (Sign v)) also
+      u _ _ (reads-to v 2 (Sector v)) also
+      u _ _ (reads-always (Frequency v)) also
+      u _ _ (reads-when (ktaOk v) _ (Kta v) (or-false _)) also
+      u _ _ (reads-when (ktvOk v) _ (Ktv v) (or-false _)) also
+      u _ _ (reads-when (eqb v 1 || eqb v 2) _ (Sequence v) (or-false _)) also
+      u _ _ (reads-always (Plain v)) also
+      tt
 
 -- ---- an item
 
@@ -162,11 +169,38 @@ numbered-at k (a ∷ l) h (suc i) = numbered (numbered-at (suc k) l (h .1) i) (o
 
 long-numbers : (t w v : ℕ) → Numbered 0 (longs t w v)
 long-numbers t w v =
-    (reads-none 0, (reads-kind _, (reads-kind _, (reads-kind _, (reads-kind _, (reads-if (leb v topCount) (counted t v), (reads-if (leb v topLow) (Low v), (reads-if (leb v topHigh) (High v), (reads-none 8, (reads-if (leb (magnitudeIn 2 v) 1000) (Factor (signedIn 2 v)), tt))))))))))
+    reads-none 0 also
+    reads-kind _ also
+    reads-kind _ also
+    reads-kind _ also
+    reads-kind _ also
+    reads-if (leb v topCount) (counted t v) also
+    reads-if (leb v topLow) (Low v) also
+    reads-if (leb v topHigh) (High v) also
+    reads-none 8 also
+    reads-if (leb (magnitudeIn 2 v) 1000) (Factor (signedIn 2 v)) also
+    tt
 
 short-numbers : (v : ℕ) → Numbered 0 (shorts v)
 short-numbers v =
-    (reads-none 0, (reads-none 1, (reads-none 2, (reads-none 3, (reads-none 4, (reads-none 5, (reads-none 6, (reads-none 7, (reads-kind _, (reads-if (leb (magnitudeIn 1 v) 100) (Factor (times 10 (signedIn 1 v))), (reads-if (leb v 1) (Sign v), (reads-if (leb v 2) (Sector v), (reads-kind _, (reads-if (ktaOk v) (Kta v), (reads-if (ktvOk v) (Ktv v), (reads-if (eqb v 1 || eqb v 2) (Sequence v), (reads-kind _, tt)))))))))))))))))
+    reads-none 0 also
+    reads-none 1 also
+    reads-none 2 also
+    reads-none 3 also
+    reads-none 4 also
+    reads-none 5 also
+    reads-none 6 also
+    reads-none 7 also
+    reads-kind _ also
+    reads-if (leb (magnitudeIn 1 v) 100) (Factor (times 10 (signedIn 1 v))) also
+    reads-if (leb v 1) (Sign v) also
+    reads-if (leb v 2) (Sector v) also
+    reads-kind _ also
+    reads-if (ktaOk v) (Kta v) also
+    reads-if (ktvOk v) (Ktv v) also
+    reads-if (eqb v 1 || eqb v 2) (Sequence v) also
+    reads-kind _ also
+    tt
 
 pub item-entry : (t : ℕ) (it : Item) (v : ℕ) → Entry (it .quantity / 64) (readingOf t it v)
 unfolding longOf wordOf
