@@ -15,6 +15,7 @@ use Rattle.directory.specs.Quantity.{quantity, energyCount, low, high, wrap, wi
 use Rattle.directory.specs.Order.{roomOf}
 use Rattle.directory.specs.Table.{directory}
 use Rattle.directory.specs.Item.{none}
+use Rattle.directory.proofs.ByKind.{_also_}
 use Rattle.directory.proofs.Rules.{directory-rules}
 use Rattle.meter.specs.declared.Meter.{Meter}
 use Rattle.meter.specs.Samples.{factorOf}
@@ -168,58 +169,25 @@ module _ (m : Meter) (typed : Typed m) (h : meterOk m ≡ true) where
 
   values-fit : Fits (valuesOf m) widths
   unfolding powerValues signedValues signValues countValues lowValues highValues wrapValues
-  values-fit = (
-    tt,
-    (
-      all-fit 4 6 (m .latest .voltages) (typed .voltages) (typed .voltage),
-      (
-        all-fit 4 4 (m .latest .currents) (typed .currents) (typed .current),
-        (
-          all-fit 4 10 (powerValues m) refl power-fits,
-          (
-            all-fit 4 8 (signedValues m) refl signed-fits,
-            (
-              all-fit 4 4 (countValues m) refl (count-fits m h),
-              (
-                all-fit 4 4 (lowValues m) refl (low-fits m h),
-                (
-                  all-fit 4 4 (highValues m) refl (high-fits m h),
-                  (
-                    all-fit 2 4 (wrapValues m) refl (wrap-fits m h),
-                    (
-                      factor-fits,
-                      (
-                        all-fit 1 8 (signValues m) refl sign-fits,
-                        (
-                          (omega (arith, parts .sector), tt),
-                          (
-                            (typed .frequency, tt),
-                            (
-                              (omega (arith, ratio-tops), tt),
-                              (
-                                (omega (arith, ratio-tops), tt),
-                                (
-                                  (omega (arith, one-or-two (m .latest .sequence) (parts .sequence)), tt),
-                                  (
-                                    plain-fits,
-                                    tt,
-                                  ),
-                                ),
-                              ),
-                            ),
-                          ),
-                        ),
-                      ),
-                    ),
-                  ),
-                ),
-              ),
-            ),
-          ),
-        ),
-      ),
-    ),
-  )
+  values-fit =
+      tt also
+      all-fit 4 6 (m .latest .voltages) (typed .voltages) (typed .voltage) also
+      all-fit 4 4 (m .latest .currents) (typed .currents) (typed .current) also
+      all-fit 4 10 (powerValues m) refl power-fits also
+      all-fit 4 8 (signedValues m) refl signed-fits also
+      all-fit 4 4 (countValues m) refl (count-fits m h) also
+      all-fit 4 4 (lowValues m) refl (low-fits m h) also
+      all-fit 4 4 (highValues m) refl (high-fits m h) also
+      all-fit 2 4 (wrapValues m) refl (wrap-fits m h) also
+      factor-fits also
+      all-fit 1 8 (signValues m) refl sign-fits also
+      (omega (arith, parts .sector), tt) also
+      (typed .frequency, tt) also
+      (omega (arith, ratio-tops), tt) also
+      (omega (arith, ratio-tops), tt) also
+      (omega (arith, one-or-two (m .latest .sequence) (parts .sequence)), tt) also
+      plain-fits also
+      tt
 
   case : (q : ℕ) → 1 ≤ widthOf q → q % 64 < length (getD (valuesOf m) (q / 64) [])
   case q w = fit-case (getD (valuesOf m) (q / 64) []) (getD widths (q / 64) []) (fits-at (valuesOf m) widths values-fit (q / 64)) (q % 64) w
