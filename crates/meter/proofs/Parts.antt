@@ -22,8 +22,8 @@ use Rattle.meter.specs.Meters.{meterT, setupWithin, meterOk}
 use Rattle.meter.specs.Fits.{Held, Room}
 
 -- a number that is 1 or 2
-pub one-or-two : (n : ℕ) → (eqb n 1 || eqb n 2) ≡ true → n ≤ 2
-one-or-two n h = by (eqb n 1) (eqb n 2) refl refl h
+pub two-at-most : (n : ℕ) → (eqb n 1 || eqb n 2) ≡ true → n ≤ 2
+two-at-most n h = by (eqb n 1) (eqb n 2) refl refl h
   where
     by : (a b : Bool) → eqb n 1 ≡ a → eqb n 2 ≡ b → (a || b) ≡ true → n ≤ 2
     by true b e f t = omega (arith, eqb-true n 1 e)

@@ -20,7 +20,7 @@ use Rattle.directory.proofs.Rules.{directory-rules}
 use Rattle.meter.specs.declared.Meter.{Meter}
 use Rattle.meter.specs.Samples.{factorOf}
 use Rattle.meter.specs.Meters.{meterT, meterOk, withSetup, energyAt}
-use Rattle.meter.proofs.Parts.{one-or-two, SampleParts, sample-parts, meter-parts, ratio-parts}
+use Rattle.meter.proofs.Parts.{two-at-most, SampleParts, sample-parts, meter-parts, ratio-parts}
 use Rattle.registers.specs.Shown.{powerAt, powerValues, signedValues, signValues, countValues, lowValues, highValues, wrapValues, factorValues, plainValues, valuesOf, shownOf}
 use Rattle.registers.specs.Cases.{Typed, EveryCase, SetupUnseen}
 use Rattle.registers.proofs.Values.{count-at, low-at, high-at, wrap-at, energy-most, signed-at, sign-at, power-s, power-whole, power-at, power-most}
@@ -185,7 +185,7 @@ module _ (m : Meter) (typed : Typed m) (h : meterOk m ≡ true) where
       (typed .frequency, tt) also
       (omega (arith, ratio-tops), tt) also
       (omega (arith, ratio-tops), tt) also
-      (omega (arith, one-or-two (m .latest .sequence) (parts .sequence)), tt) also
+      (omega (arith, two-at-most (m .latest .sequence) (parts .sequence)), tt) also
       plain-fits also
       tt
 

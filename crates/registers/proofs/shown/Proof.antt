@@ -3,7 +3,7 @@ use mathlib.Core.Path.{sym, _∙_}
 use native.Mathlib.Omega.{arith}
 use Rattle.directory.proofs.ByKind.{kind-past}
 use Rattle.meter.specs.Meters.{meterT}
-use Rattle.meter.proofs.Parts.{one-or-two, meter-parts, sample-parts}
+use Rattle.meter.proofs.Parts.{two-at-most, meter-parts, sample-parts}
 use Rattle.registers.proofs.Values.{shown-kind, shown-none}
 use borrow.Author.Needs.{needs}
 use Rattle.registers.proofs.shown.Statement.{statement}
@@ -64,7 +64,7 @@ only-requires-4 c κs = search needs
 cast-only-2 : tie.Need-cast-only-2
 cast-only-2 c =
     let s = c .before .before in
-    record { fits = omega (arith, one-or-two (s .args .m .latest .sequence) (sample-parts (meterT (s .args .m)) (s .args .m .latest) (meter-parts (s .args .m) (s .pre) .latest) .sequence)) }
+    record { fits = omega (arith, two-at-most (s .args .m .latest .sequence) (sample-parts (meterT (s .args .m)) (s .args .m .latest) (meter-parts (s .args .m) (s .pre) .latest) .sequence)) }
 
 only-requires-5 : tie.Need-only-requires-5
 only-requires-5 c κs = search needs
