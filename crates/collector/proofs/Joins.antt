@@ -13,7 +13,7 @@ use Rattle.ratio.specs.Ratios.{ratiosOk}
 use Rattle.counts.specs.declared.WattHours.{WattHours}
 use Rattle.counts.specs.declared.Joined.{Joined}
 use Rattle.counts.specs.declared.Joined.the-variants.{Energy, Refused}
-use Rattle.counts.specs.Energies.{joinOf, joinHalvesOf}
+use Rattle.counts.specs.Energies.{topCount, topLow, topHigh, joinOf, joinHalvesOf}
 use Rattle.collector.specs.Answers.{JoinsWhen}
 
 -- the number of a join's refusal; 0 for an energy
@@ -51,21 +51,21 @@ halves true false e reason = (λ h. (sym (ap reasonIn h), inr refl), λ h. ap Re
 halves false high e reason = (λ h. (sym (ap reasonIn h), inl refl), λ h. ap Refused (sym (h .0)))
 
 -- over a top, as a test and as a number
-over : (low high : ℕ) → ((leb low 999999 ≡ false) ⊎ (leb high 65535999 ≡ false)) ↔ ((999999 < low) ⊎ (65535999 < high))
+over : (low high : ℕ) → ((leb low topLow ≡ false) ⊎ (leb high topHigh ≡ false)) ↔ ((topLow < low) ⊎ (topHigh < high))
 over low high = (to, from)
   where
-    to : ((leb low 999999 ≡ false) ⊎ (leb high 65535999 ≡ false)) → (999999 < low) ⊎ (65535999 < high)
-    to (inl h) = inl (leb-false low 999999 h)
-    to (inr h) = inr (leb-false high 65535999 h)
+    to : ((leb low topLow ≡ false) ⊎ (leb high topHigh ≡ false)) → (topLow < low) ⊎ (topHigh < high)
+    to (inl h) = inl (leb-false low topLow h)
+    to (inr h) = inr (leb-false high topHigh h)
 
-    from : ((999999 < low) ⊎ (65535999 < high)) → (leb low 999999 ≡ false) ⊎ (leb high 65535999 ≡ false)
-    from (inl h) = inl (lt-leb low 999999 h)
-    from (inr h) = inr (lt-leb high 65535999 h)
+    from : ((topLow < low) ⊎ (topHigh < high)) → (leb low topLow ≡ false) ⊎ (leb high topHigh ≡ false)
+    from (inl h) = inl (lt-leb low topLow h)
+    from (inr h) = inr (lt-leb high topHigh h)
 
 pub joins-when : JoinsWhen
 unfolding joinOf joinHalvesOf
 joins-when = record {
-  three = λ r c wrap. three (ratiosOk r) (leb (c .0) 99999999) _ refl;
-  fourteen = λ r c wrap. (λ h. let t = fourteen (ratiosOk r) (leb (c .0) 99999999) _ refl .0 h in (t .0, leb-false (c .0) 99999999 (t .1)), λ h. fourteen (ratiosOk r) (leb (c .0) 99999999) _ refl .1 (h .0, lt-leb (c .0) 99999999 (h .1)));
-  halves = λ low high reason. (λ h. let t = halves (leb low 999999) (leb high 65535999) _ reason .0 h in (t .0, over low high .0 (t .1)), λ h. halves (leb low 999999) (leb high 65535999) _ reason .1 (h .0, over low high .1 (h .1)));
+  three = λ r c wrap. three (ratiosOk r) (leb (c .0) topCount) _ refl;
+  fourteen = λ r c wrap. (λ h. let t = fourteen (ratiosOk r) (leb (c .0) topCount) _ refl .0 h in (t .0, leb-false (c .0) topCount (t .1)), λ h. fourteen (ratiosOk r) (leb (c .0) topCount) _ refl .1 (h .0, lt-leb (c .0) topCount (h .1)));
+  halves = λ low high reason. (λ h. let t = halves (leb low topLow) (leb high topHigh) _ reason .0 h in (t .0, over low high .0 (t .1)), λ h. halves (leb low topLow) (leb high topHigh) _ reason .1 (h .0, over low high .1 (h .1)));
 }

@@ -1,40 +1,37 @@
--- When the meter that a request names hears a read in it.
-use mathlib.Core.Path.{_≡_, refl, sym}
-use mathlib.Core.Bool.{Bool, true, false, _&&_, _||_, not, false≢true}
+-- When the meter that a request names hears a read in it: the address is not 0, the function is a read's, and the meter is not silent.
+use mathlib.Core.Path.{_≡_, refl, _∙_}
+use mathlib.Core.Bool.{Bool, true, false, _&&_, _||_, not, and-eq-true-iff}
 use mathlib.Core.List.{List}
 use Prim.Native.Nat.{ℕ}
 use lib.Dec.{eqb}
+use borrow.Author.Tests.{eqb-false, ne-eqb, not-true}
 use Rattle.modbus.specs.Frame.{addressOf, isRead, silence}
 use Rattle.collector.specs.Collector.{heard}
 
--- the three tests: the address is 0, the function that of a read, the meter silent
-abbrev hears : Bool → Bool → Bool → Bool
-hears zero read silent = not zero && (read && not silent)
+-- a request that is heard, in its parts
+pub record Hears (request : List ℕ) : Type 0 where
+  pub own : addressOf request ≡ 0 → ⊥
+  pub read : isRead request ≡ true
+  pub loud : silence (addressOf request) request ≡ false
 
-hears-silent : (zero read silent : Bool) → silent ≡ true → false ≡ hears zero read silent
-hears-silent true read silent h = refl
-hears-silent false false silent h = refl
-hears-silent false true silent h = rw h refl
+pub hears : (request : List ℕ) → heard request ≡ true → Hears request
+unfolding heard
+hears request h =
+    let a = and-eq-true-iff (not (eqb (addressOf request) 0)) _ .0 h in
+    let b = and-eq-true-iff (isRead request) _ .0 (a .1) in
+    record { own = eqb-false (addressOf request) 0 (not-true _ (a .0)); read = b .0; loud = not-true _ (b .1) }
 
-hears-other : (zero read silent : Bool) → (zero || not read) ≡ true → false ≡ hears zero read silent
-hears-other true read silent h = refl
-hears-other false false silent h = refl
-hears-other false true silent h = absurd (false≢true h)
+pub heard-so : (request : List ℕ) → Hears request → heard request ≡ true
+unfolding heard
+heard-so request h = rw (ne-eqb (addressOf request) 0 (h .own), h .read, h .loud) refl
 
-hears-read : (zero read silent : Bool) → (zero || not read) ≡ false → not silent ≡ hears zero read silent
-hears-read true read silent h = absurd (false≢true (sym h))
-hears-read false false silent h = absurd (false≢true (sym h))
-hears-read false true silent h = refl
+-- the tests as the code makes them: another's request or none, and silence
+in-order : (zero read silent : Bool) → (not zero && (read && not silent)) ≡ (not (zero || not read) && not silent)
+in-order true read silent = refl
+in-order false true silent = refl
+in-order false false silent = refl
 
-module _ (request : List ℕ) where
-  pub heard-silent : silence (addressOf request) request ≡ true → false ≡ heard request
+module _ (request : List ℕ) {other silent : Bool} where
+  pub heard-by : (eqb (addressOf request) 0 || not (isRead request)) ≡ other → silence (addressOf request) request ≡ silent → heard request ≡ (not other && not silent)
   unfolding heard
-  heard-silent = hears-silent (eqb (addressOf request) 0) (isRead request) (silence (addressOf request) request)
-
-  pub heard-other : (eqb (addressOf request) 0 || not (isRead request)) ≡ true → false ≡ heard request
-  unfolding heard
-  heard-other = hears-other (eqb (addressOf request) 0) (isRead request) (silence (addressOf request) request)
-
-  pub heard-read : (eqb (addressOf request) 0 || not (isRead request)) ≡ false → not (silence (addressOf request) request) ≡ heard request
-  unfolding heard
-  heard-read = hears-read (eqb (addressOf request) 0) (isRead request) (silence (addressOf request) request)
+  heard-by o s = in-order (eqb (addressOf request) 0) (isRead request) (silence (addressOf request) request) ∙ λ i. not (o i) && not (s i)

@@ -17,7 +17,7 @@ use Rattle.ratio.specs.declared.Ratios.{Ratios}
 use Rattle.ratio.specs.Ratios.{ratiosOk, tOf}
 use Rattle.counts.specs.declared.Count.{Count}
 use Rattle.counts.specs.declared.Joined.the-variants as joined
-use Rattle.counts.specs.Energies.{joinOf, joinHalvesOf}
+use Rattle.counts.specs.Energies.{topCount, topLow, topHigh, joinOf, joinHalvesOf}
 use Rattle.directory.specs.declared.Item.{Item}
 use Rattle.directory.specs.declared.Span.the-variants.{Items}
 use Rattle.directory.specs.Item.{none}
@@ -131,5 +131,5 @@ pub record NotMisread : Type 0 where
 -- STATEMENT: joining: 3 (counts only), then 14, exactly when count, Low or High is over its top
 pub record JoinsWhen : Type 0 where
   pub three : (r : Ratios) (c : Count) (wrap : ℕ) → (joinOf r c wrap ≡ joined.Refused RatioOutOfLimits) ↔ (ratiosOk r ≡ false)
-  pub fourteen : (r : Ratios) (c : Count) (wrap : ℕ) → (joinOf r c wrap ≡ joined.Refused JoinPastTop) ↔ ((ratiosOk r ≡ true) × (99999999 < c .0))
-  pub halves : (low high : ℕ) (reason : Refusal) → (joinHalvesOf low high ≡ joined.Refused reason) ↔ ((reason ≡ JoinPastTop) × ((999999 < low) ⊎ (65535999 < high)))
+  pub fourteen : (r : Ratios) (c : Count) (wrap : ℕ) → (joinOf r c wrap ≡ joined.Refused JoinPastTop) ↔ ((ratiosOk r ≡ true) × (topCount < c .0))
+  pub halves : (low high : ℕ) (reason : Refusal) → (joinHalvesOf low high ≡ joined.Refused reason) ↔ ((reason ≡ JoinPastTop) × ((topLow < low) ⊎ (topHigh < high)))

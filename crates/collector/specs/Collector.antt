@@ -7,6 +7,7 @@ use lib.Dec.{ltb, eqb}
 use lib.ListN.{length, getD, take}
 use Rattle.refusal.specs.declared.Refusal.the-variants.{RatioOutOfLimits, NotARead, ReplyLength, ReplyCrc, ReplyForeign, ReplyMisfit, IndexPastItems}
 use Rattle.refusal.specs.declared.ErrorCode.the-variants.{Function, Address, Data}
+use Rattle.refusal.specs.Numbers.{errorNumber}
 use Rattle.crc.specs.Crc.{intact}
 use Rattle.words.specs.Words.{valueAt}
 use Rattle.ratio.specs.declared.Ratios.{Ratios}
@@ -50,7 +51,11 @@ thirdOf reply = getD reply 2 0
 
 -- the error code of a number; 11: code not 1 to 3
 abbrev pub codeOf : ℕ → Answer
-codeOf n = cond (eqb n 1) (Error Function) (cond (eqb n 2) (Error Address) (cond (eqb n 3) (Error Data) (Refused ReplyMisfit)))
+codeOf n =
+    cond (eqb n (errorNumber Function)) (Error Function)
+    (cond (eqb n (errorNumber Address)) (Error Address)
+    (cond (eqb n (errorNumber Data)) (Error Data)
+    (Refused ReplyMisfit)))
 
 -- 11, of 0x83: length not 5, or the code not one; else the error code is given
 unfoldable pub errorOf : List ℕ → Answer

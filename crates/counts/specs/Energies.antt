@@ -37,11 +37,27 @@ highOf e = e .0 / 1000000
 abbrev pub energyOf : ℕ → ℕ → WattHours
 energyOf t count = record { 0 = count * stepOf t }
 
+-- the top of an energy register
+abbrev pub topCount : ℕ
+topCount = 99999999
+
+-- the top of Low
+abbrev pub topLow : ℕ
+topLow = 999999
+
+-- the top of High
+abbrev pub topHigh : ℕ
+topHigh = 65535999
+
+-- the top of an energy, in Wh
+abbrev pub topWh : ℕ
+topWh = 65535999999999
+
 -- joins count and wrap: 3, then 14, else (wrap × 100,000,000 + count) × step
 unfoldable pub joinOf : Ratios → Count → ℕ → Joined
 joinOf r c wrap =
     cond (ratiosOk r)
-    (cond (leb (c .0) 99999999)
+    (cond (leb (c .0) topCount)
     (Energy (energyOf (tOf r) (wrap * 100000000 + c .0)))
     (Refused JoinPastTop))
     (Refused RatioOutOfLimits)
@@ -49,20 +65,16 @@ joinOf r c wrap =
 -- joins Low and High: 14, else High × 1,000,000 + Low
 unfoldable pub joinHalvesOf : ℕ → ℕ → Joined
 joinHalvesOf low high =
-    cond (leb low 999999 && leb high 65535999)
+    cond (leb low topLow && leb high topHigh)
     (Energy (record { 0 = high * 1000000 + low }))
     (Refused JoinPastTop)
 
--- the top of an energy, in Wh
-abbrev pub topWh : ℕ
-topWh = 65535999999999
-
 -- STATEMENT: for every energy up to the top, register, wrap, Low and High fit their words and are never refused in a join
 pub record CountsFit : Type 0 where
-  pub register : (t : ℕ) (e : WattHours) → registerOf t e .0 ≤ 99999999
+  pub register : (t : ℕ) (e : WattHours) → registerOf t e .0 ≤ topCount
   pub wrap : (t : ℕ) (e : WattHours) → e .0 ≤ topWh → wrapOf t e < 65536
-  pub low : (e : WattHours) → lowOf e ≤ 999999
-  pub high : (e : WattHours) → e .0 ≤ topWh → highOf e ≤ 65535999
+  pub low : (e : WattHours) → lowOf e ≤ topLow
+  pub high : (e : WattHours) → e .0 ≤ topWh → highOf e ≤ topHigh
 
 -- an energy rounded down to the step
 abbrev pub roundedOf : ℕ → WattHours → WattHours

@@ -22,8 +22,9 @@ use Rattle.modbus.specs.Read.{readIn}
 use Rattle.modbus.proofs.Judged.{read-when}
 use Rattle.meter.proofs.Parts.{meter-parts}
 use Rattle.collector.specs.Collector.{heard}
+use Rattle.collector.proofs.Requests.{heard-so}
 use Rattle.demands.specs.Polled.{requestFor, EveryItemPolled}
-use Rattle.demands.proofs.Polls.{heard-so, with-data}
+use Rattle.demands.proofs.Polls.{with-data}
 
 -- an item of one word or two is a run by itself
 module _ (i : ℕ) (start : ℕ) (it : Item) (same : getD directory i none ≡ it) (found : findIn directory start 0 ≡ At i) where
@@ -62,7 +63,7 @@ module _ (address i : ℕ) (l : i < length directory) where
   loud = rw (intact-is-sealed .passes ((address ∷ 0x03 ∷ []) ++ word (it .start) ++ word (it .words)), eq-eqb address address refl, and-false (not (eqb address 0))) refl
 
   pub hears : 1 ≤ address → heard request ≡ true
-  hears some = heard-so request (λ z. omega (arith, z, some)) refl loud
+  hears some = heard-so request (record { own = λ z. omega (arith, z, some); read = refl; loud = loud })
 
 pub every-item-polled : EveryItemPolled
 every-item-polled = record {

@@ -1,13 +1,13 @@
 -- A reply to a read is a data reply: as long as it says, with its CRC, and with each item's words where the collector looks for them.
 use mathlib.Core.Path.{_≡_, refl, sym, ap, _∙_}
-use mathlib.Core.Bool.{true, false, not, false≢true, and-eq-true-iff}
+use mathlib.Core.Bool.{true, false, false≢true}
 use mathlib.Core.List.{List, [], _∷_, _++_, append-assoc}
 use Prim.Native.Nat.{ℕ, zero, suc, _+_, _*_, _^_, _≤_, _<_}
 use native.Mathlib.Nat.{lt-of-lt-of-le, pow-le-pow-right}
 use native.Mathlib.Omega.{arith}
-use lib.Dec.{T, leb, eqb}
+use lib.Dec.{T, leb}
 use lib.ListN.{length, getD, take, drop}
-use borrow.Author.Tests.{leb-true, eqb-true, eqb-false, eq-eqb, ne-eqb, le-ltb, not-true}
+use borrow.Author.Tests.{leb-true, eqb-true, eq-eqb, le-ltb}
 use Rattle.refusal.specs.declared.ErrorCode.{ErrorCode}
 use Rattle.refusal.specs.declared.ErrorCode.the-variants.{Function}
 use Rattle.refusal.specs.declared.Refusal.the-variants.{NotARead, IndexPastItems}
@@ -48,6 +48,7 @@ use Rattle.board.proofs.Replies.{gives-long, gives-whole, sent-front, echo-func
 use Rattle.board.proofs.Answers.{obeys}
 use Rattle.collector.specs.Collector.{heard, isReadError, placeOf, collectorOf}
 use Rattle.collector.specs.Answers.{Asks, Asked, Fits, itemAt, valueIn}
+use Rattle.collector.proofs.Requests.{Hears, hears, heard-so}
 use Rattle.collector.proofs.Places.{run-length, run-at}
 use Rattle.collector.proofs.Answers.{exactly-when}
 use Rattle.demands.specs.Meaning.{meaningOf}
@@ -76,23 +77,6 @@ unfolding every directory
 directory-roomy = tt
 
 -- ---- the reply
-
--- a request that is heard, in its parts
-record Hears (request : List ℕ) : Type 0 where
-  pub own : addressOf request ≡ 0 → ⊥
-  pub read : isRead request ≡ true
-  pub loud : silence (addressOf request) request ≡ false
-
-hears : (request : List ℕ) → heard request ≡ true → Hears request
-unfolding heard
-hears request h =
-    let a = and-eq-true-iff (not (eqb (addressOf request) 0)) _ .0 h in
-    let b = and-eq-true-iff (isRead request) _ .0 (a .1) in
-    record { own = eqb-false (addressOf request) 0 (not-true _ (a .0)); read = b .0; loud = not-true _ (b .1) }
-
-pub heard-so : (request : List ℕ) → (addressOf request ≡ 0 → ⊥) → isRead request ≡ true → silence (addressOf request) request ≡ false → heard request ≡ true
-unfolding heard
-heard-so request own read loud = rw (ne-eqb (addressOf request) 0 own, read, loud) refl
 
 module _ (m : Meter) (request b : List ℕ) (meets : Meets m request b) (a : Asks request) where
   abbrev its : List Item
@@ -250,7 +234,7 @@ module _ (m : Meter) (request b : List ℕ) (meets : Meets m request b) where
   from-data bytes n ans h (misread code r s e k) = no-error request bytes code e h
   from-data bytes n ans h (shows first count r s e k) =
       let loud : silence (addressOf request) request ≡ false = rw (sym (meets .own)) (ans .heeds .heard) in
-      record { hears = heard-so request (ans .own) r loud; first = first; count = count; items = s }
+      record { hears = heard-so request (record { own = ans .own; read = r; loud = loud }); first = first; count = count; items = s }
   from-data bytes n ans h (miswritten code w v e k) = no-error request bytes code e h
   from-data bytes n ans h (stores w v e k) = no-echo request bytes (omega (arith, shaped-length request (write-when .legal m request .0 v .0) .0)) w e h
 

@@ -1,7 +1,7 @@
 -- What a meter shows of an item is read as what it means: an argument for each kind, and the directory's items come under them by one
 -- computed test.
 use mathlib.Core.Path.{_≡_, refl, sym, ap, _∙_}
-use mathlib.Core.Bool.{Bool, true, false, _&&_, cond, and-eq-true-iff}
+use mathlib.Core.Bool.{Bool, true, false, _&&_, cond}
 use mathlib.Core.List.{List, [], _∷_, map}
 use Prim.Native.Nat.{ℕ, zero, suc, _*_, _/_, _%_, _^_, _≤_, _<_, zero-le}
 use native.Mathlib.Nat.{lt-of-le-of-lt}
@@ -14,18 +14,16 @@ use Rattle.signed.specs.Signs.{negative, signedOf}
 use Rattle.signed.specs.declared.Signed.{Signed}
 use Rattle.words.specs.Signed.{twos}
 use Rattle.words.proofs.Signs.{signed-back}
-use Rattle.ratio.specs.Powers.{signWord}
-use Rattle.ratio.proofs.Powers.{powers-fit}
+use Rattle.ratio.proofs.Powers.{powers-fit, sign-most}
 use Rattle.counts.proofs.Joins.{counts-fit}
 use Rattle.directory.specs.declared.Item.{Item}
-use Rattle.directory.specs.Item.{none}
+use Rattle.directory.specs.Item.{none, inBytes}
 use Rattle.directory.specs.Table.{directory}
 use Rattle.directory.specs.Order.{roomOf}
 use Rattle.meter.specs.declared.Meter.{Meter}
 use Rattle.meter.specs.Samples.{factorOf}
 use Rattle.meter.specs.Meters.{meterT, meterOk, energyAt}
-use Rattle.meter.proofs.Tests.{both}
-use Rattle.meter.proofs.Parts.{SampleParts, sample-parts, meter-parts}
+use Rattle.meter.proofs.Parts.{SampleParts, sample-parts, meter-parts, ratio-parts}
 use Rattle.registers.specs.Shown.{powersOf, powerAt, powerValues, signedValues, signValues, countValues, lowValues, highValues, wrapValues, factorValues, plainValues, valuesOf, shownOf}
 use Rattle.registers.proofs.Values.{count-at, low-at, high-at, energy-most, signed-at, sign-at, power-most}
 use Rattle.registers.proofs.Widths.{Shows, in-room, typed-shows}
@@ -42,7 +40,7 @@ use Rattle.demands.specs.Meaning.{cut, powerMeanings, signedMeanings, co
 
 -- what has room in a B leaves the upper byte clear
 upper-clear : (it : Item) (v : ℕ) → v < 256 ^ roomOf it → (isB it && leb 256 v) ≡ false
-upper-clear it v h = by (ltb (it .start) 0x1000) (eqb (it .fills) 1) refl h
+upper-clear it v h = by (inBytes it) (eqb (it .fills) 1) refl h
   where
     by : (a b : Bool) → eqb (it .fills) 1 ≡ b → v < 256 ^ cond a (it .fills) (2 * it .words) → ((a && b) && leb 256 v) ≡ false
     by true true e h = lt-leb 256 v (rw (eqb-true (it .fills) 1 e) at h)
@@ -85,10 +83,6 @@ signed-limited f n top negative x small within =
 unsigned-zero : (z : ℤ) → unsignedZero (negative z) (natAbs z) ≡ signedOf z
 unsigned-zero (pos n) = refl
 unsigned-zero (negsuc n) = ap (λ (t : Bool). record { negative = t; magnitude = suc n }) (lt-ltb 0 (suc n) (omega arith))
-
-sign-most : (negative : Bool) → signWord negative ≤ 1
-sign-most true = omega arith
-sign-most false = omega arith
 
 -- ---- kind by kind
 
@@ -164,17 +158,14 @@ module _ (m : Meter) (h : meterOk m ≡ true) where
   frequency-read : ReadKind m 12
   frequency-read = few m 12 1 (refl, tt)
 
-  ratios-within : ((leb 1 (m .ratios .kta) && leb (m .ratios .kta) 9999) ≡ true) × ((leb 10 (m .ratios .ktv) && leb (m .ratios .ktv) 9999) ≡ true)
-  ratios-within = both (leb 1 (m .ratios .kta) && leb (m .ratios .kta) 9999) (leb 10 (m .ratios .ktv) && leb (m .ratios .ktv) 9999) (meter-parts m h .ratios)
-
   kta-read : ReadKind m 13
-  kta-read = few m 13 1 (possible (ratios-within .0), tt)
+  kta-read = few m 13 1 (possible (ratio-parts m h .0), tt)
 
   ktv-read : ReadKind m 14
-  ktv-read = few m 14 1 (possible (ratios-within .1), tt)
+  ktv-read = few m 14 1 (possible (ratio-parts m h .1), tt)
 
   sequence-read : ReadKind m 15
-  sequence-read = few m 15 1 (possible (and-eq-true-iff _ _ .1 (le-leb _ _ (parts .sequence .0), le-leb _ _ (parts .sequence .1))), tt)
+  sequence-read = few m 15 1 (possible (parts .sequence), tt)
 
   plains-read : ReadKind m 16
   plains-read w b = alike read.Plain (plainValues m) w b refl

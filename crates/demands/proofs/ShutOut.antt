@@ -8,7 +8,7 @@ use native.Mathlib.Omega.{arith}
 use Rattle.ratio.specs.declared.Ratios.{Ratios}
 use Rattle.ratio.specs.Powers.{powerLimit}
 use Rattle.ratio.specs.Steps.{stepOf}
-use Rattle.counts.specs.Energies.{registerOf, wrapOf, energyOf}
+use Rattle.counts.specs.Energies.{topCount, registerOf, wrapOf, energyOf}
 use Rattle.setup.specs.Ranges.{wordOk, groupOk}
 use Rattle.directory.specs.Quantity.{posEa}
 use Rattle.meter.specs.declared.Answer.the-variants.{Accepted}
@@ -54,7 +54,7 @@ ignores-samples figure same keeps = same-figure (figure []) (figure one) (sym (s
 first-only : (figure : List Event → ℕ) → ((s t : Sample) (xs : List Event) → figure (Event.sample s ∷ Event.sample t ∷ xs) ≡ figure (Event.sample s ∷ xs)) → Keeps figure → ⊥
 first-only figure same keeps = same-figure (figure one) (figure two) (sym (same tenWh tenWh [])) _ _ (two-exact ∙ ap (λ (n : ℕ). n + 3600000) (sym one-exact)) (keeps one) (keeps two)
 
-made-up : (t exact count wrap : ℕ) → count ≤ 99999999 → Bounds exact (stepOf t) (energyOf t (wrap * 100000000 + count) .0) → (count ≡ registerOf t (record { 0 = exact / 360000 }) .0) × (wrap ≡ wrapOf t (record { 0 = exact / 360000 }))
+made-up : (t exact count wrap : ℕ) → count ≤ topCount → Bounds exact (stepOf t) (energyOf t (wrap * 100000000 + count) .0) → (count ≡ registerOf t (record { 0 = exact / 360000 }) .0) × (wrap ≡ wrapOf t (record { 0 = exact / 360000 }))
 made-up t exact count wrap top bounds =
     let n = wrap * 100000000 + count in
     let low : n * stepOf t ≤ exact / 360000 = omega (arith, bounds .above) in

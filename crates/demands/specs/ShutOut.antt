@@ -6,7 +6,7 @@ use mathlib.Core.List.{List, [], _∷_}
 use lib.IntN.{pos}
 use Rattle.ratio.specs.declared.Ratios.{Ratios}
 use Rattle.ratio.specs.Steps.{stepOf}
-use Rattle.counts.specs.Energies.{registerOf, wrapOf, energyOf}
+use Rattle.counts.specs.Energies.{topCount, registerOf, wrapOf, energyOf}
 use Rattle.directory.specs.Quantity.{posEa}
 use Rattle.meter.specs.declared.Answer.the-variants.{Accepted}
 use Rattle.meter.specs.declared.samples.Sample.{Sample}
@@ -47,4 +47,4 @@ pub record ShutOut : Type 0 where
   pub same-each-time : (figure : List Event → ℕ) → ((xs : List Event) → figure xs ≡ figure []) → Keeps figure → ⊥
   pub ignores-samples : (figure : List Event → ℕ) → ((s : Sample) (xs : List Event) → figure (Event.sample s ∷ xs) ≡ figure xs) → Keeps figure → ⊥
   pub first-only : (figure : List Event → ℕ) → ((s t : Sample) (xs : List Event) → figure (Event.sample s ∷ Event.sample t ∷ xs) ≡ figure (Event.sample s ∷ xs)) → Keeps figure → ⊥
-  pub made-up : (t exact count wrap : ℕ) → count ≤ 99999999 → Bounds exact (stepOf t) (energyOf t (wrap * 100000000 + count) .0) → (count ≡ registerOf t (record { 0 = exact / 360000 }) .0) × (wrap ≡ wrapOf t (record { 0 = exact / 360000 }))
+  pub made-up : (t exact count wrap : ℕ) → count ≤ topCount → Bounds exact (stepOf t) (energyOf t (wrap * 100000000 + count) .0) → (count ≡ registerOf t (record { 0 = exact / 360000 }) .0) × (wrap ≡ wrapOf t (record { 0 = exact / 360000 }))

@@ -1,3 +1,4 @@
+pub mod ByKind
 pub mod Flat
 pub mod Order
 pub mod Views

@@ -1,7 +1,9 @@
 -- Paper 01, "The directory": an item is four numbers of the constant table (address, addresses filled, words sent,
 -- quantity), and the table is read four numbers at a time.
 use Prim.Native.Nat.{ℕ, _+_}
+use mathlib.Core.Bool.{Bool}
 use mathlib.Core.List.{List, [], _∷_}
+use lib.Dec.{ltb}
 use Rattle.directory.specs.declared.Item.{Item}
 
 abbrev pub item : ℕ → ℕ → ℕ → ℕ → Item
@@ -18,6 +20,10 @@ items [] = []
 -- what stands where there is no item
 abbrev pub none : Item
 none = item 0 0 0 0
+
+-- the byte block: addresses count bytes
+abbrev pub inBytes : Item → Bool
+inBytes it = ltb (it .start) 0x1000
 
 -- where an item ends: the address after the last that it fills
 abbrev pub ends : Item → ℕ

@@ -4,7 +4,7 @@ use mathlib.Core.List.{List, [], _∷_}
 use mathlib.Core.Bool.{Bool, true, _&&_, _||_, cond}
 use lib.Dec.{leb, ltb, eqb}
 use Rattle.directory.specs.declared.Item.{Item}
-use Rattle.directory.specs.Item.{ends}
+use Rattle.directory.specs.Item.{inBytes, ends}
 use Rattle.directory.specs.Quantity.{widthOf}
 
 -- ascending, without overlap: each item fills something, and starts where the one before ends, or after
@@ -28,13 +28,13 @@ ruled its = ascends 0 its && every narrow its
 -- L sends two words and fills 4 addresses of the byte block, W one and 2, B one and 1; in the word blocks L 2 and 2, W 1 and 1
 abbrev pub shaped : Item → Bool
 shaped it =
-    cond (ltb (it .start) 0x1000)
+    cond (inBytes it)
     (cond (eqb (it .words) 2) (eqb (it .fills) 4) (eqb (it .words) 1 && (eqb (it .fills) 2 || eqb (it .fills) 1)))
     ((eqb (it .words) 2 && eqb (it .fills) 2) || (eqb (it .words) 1 && eqb (it .fills) 1))
 
 -- the bytes that an item has room for: L 4, W 2, B 1
 abbrev pub roomOf : Item → ℕ
-roomOf it = cond (ltb (it .start) 0x1000) (it .fills) (2 * it .words)
+roomOf it = cond (inBytes it) (it .fills) (2 * it .words)
 
 -- what an item shows is a quantity, and has room in it
 abbrev pub meant : Item → Bool

@@ -1,7 +1,7 @@
 -- The answers of a new meter and of a sample as picks by tests; and what is within limits stays so.
 use mathlib.Core.Path.{_≡_, refl, sym, ap, _∙_}
 use mathlib.Core.Logic.{_↔_}
-use mathlib.Core.Bool.{Bool, true, false, _&&_, cond, and-true, not}
+use mathlib.Core.Bool.{Bool, true, false, _&&_, cond, and-true, not, false≢true, and-eq-true-iff}
 use mathlib.Core.List.{List}
 use Prim.Native.Nat.{ℕ, _+_, _%_, zero, suc, zero-le}
 use native.Mathlib.Omega.{arith}
@@ -9,7 +9,6 @@ use lib.Dec.{leb, eqb}
 use borrow.Author.Tests.{le-leb, ne-eqb}
 use Rattle.refusal.specs.declared.Refusal.{Refusal}
 use Rattle.refusal.specs.declared.Refusal.the-variants.{MeterOutOfLimits, RatioOutOfLimits, OwnAddressZero, SampleOutOfLimits, EnergyPastTop}
-use Rattle.refusal.specs.Numbers.{refusalNumber}
 use Rattle.signed.specs.declared.Signed.{Signed}
 use Rattle.signed.specs.Signs.{aboveOf, belowOf}
 use Rattle.ratio.specs.declared.Ratios.{Ratios}
@@ -28,7 +27,6 @@ use Rattle.meter.specs.Energies.{energyOk, energiesOk, plusOf, withPower
 use Rattle.meter.specs.Meters.{meterT, setupWithin, meterOk, blankOf, refusedOf, acceptedOf, newOf, withSetup}
 use Rattle.meter.specs.After.{nextOf, meterWithinTop, afterOf}
 use Rattle.meter.specs.Answers.{NewAnswers, SampleAnswers, StaysWithin, SetupIdle}
-use Rattle.meter.proofs.Tests.{both, never}
 use Rattle.meter.proofs.Parts.{meter-parts}
 use Rattle.meter.proofs.Cases.{chosen, after-accepted}
 use Rattle.meter.proofs.Outcomes.{firstOf, first-fails, second-fails, third-fails, none-fails, not-accepted}
@@ -47,19 +45,6 @@ module _ (m : Meter) (s : Sample) where
   unfolding afterOf
   answer = picked (meterOk m) (sampleOk (meterT m) s) (meterWithinTop (nextOf m s)) m (nextOf m s)
 
--- no two of the reasons are the same, since their numbers are not
-apart : {x y : Refusal} → (refusalNumber x ≡ refusalNumber y → ⊥) → x ≡ y → ⊥
-apart h e = h (ap refusalNumber e)
-
-one-five : MeterOutOfLimits ≡ SampleOutOfLimits → ⊥
-one-five = apart (λ h. omega arith)
-
-one-six : MeterOutOfLimits ≡ EnergyPastTop → ⊥
-one-six = apart (λ h. omega arith)
-
-five-six : SampleOutOfLimits ≡ EnergyPastTop → ⊥
-five-six = apart (λ h. omega arith)
-
 unchanged : (a b c : Bool) (m n : Meter) (reason : Refusal) → chosen a b c m n .answer ≡ Refused reason → chosen a b c m n .meter ≡ m
 unchanged true true true m n reason h = not-accepted (sym h)
 unchanged true true false m n reason h = refl
@@ -75,9 +60,9 @@ accepted m s = rw (answer m s) (none-fails _ _ _ (meterOk m) (sampleOk (meterT m
 
 pub sample-answers : SampleAnswers
 sample-answers = record {
-  one = λ m s. rw (answer m s) (first-fails _ _ _ one-five one-six five-six (meterOk m) (sampleOk (meterT m) s) (meterWithinTop (nextOf m s)));
-  five = λ m s. rw (answer m s) (second-fails _ _ _ one-five one-six five-six (meterOk m) (sampleOk (meterT m) s) (meterWithinTop (nextOf m s)));
-  six = λ m s. rw (answer m s) (third-fails _ _ _ one-five one-six five-six (meterOk m) (sampleOk (meterT m) s) (meterWithinTop (nextOf m s)));
+  one = λ m s. rw (answer m s) (first-fails _ _ _ refl refl refl (meterOk m) (sampleOk (meterT m) s) (meterWithinTop (nextOf m s)));
+  five = λ m s. rw (answer m s) (second-fails _ _ _ refl refl refl (meterOk m) (sampleOk (meterT m) s) (meterWithinTop (nextOf m s)));
+  six = λ m s. rw (answer m s) (third-fails _ _ _ refl refl refl (meterOk m) (sampleOk (meterT m) s) (meterWithinTop (nextOf m s)));
   accepted = accepted;
   refused = refused;
   counted = λ m s h. let t = accepted m s .0 h in ap (λ (r : Answered). r .meter) (after-accepted m s (t .0) (t .1) (t .2));
@@ -96,7 +81,7 @@ next-within : (m : Meter) (s : Sample) → meterOk m ≡ true → sampleOk (mete
 unfolding meterOk
 next-within m s hm hs ht =
     let k = meter-parts m hm in
-    let t = both (withinTop (nextOf m s .active)) (withinTop (nextOf m s .reactive)) ht in
+    let t = and-eq-true-iff (withinTop (nextOf m s .active)) (withinTop (nextOf m s .reactive)) .0 ht in
     let p = powered-within (m .active) (threeOf (s .p)) ∙ t .0 in
     let q = powered-within (m .reactive) (threeOf (s .q)) ∙ t .1 in
     λ i. le-leb 1 (m .address) (k .address) i && k .ratios i && p i && q i && hs i && k .setup i
@@ -154,20 +139,11 @@ zero-no (suc n) = rw (ne-eqb (suc n) 0 (omega arith), le-leb 1 (suc n) (omega ar
 
 zero-is : (a : ℕ) → (not (eqb a 0) ≡ false) ↔ (a ≡ 0)
 zero-is zero = (λ h. refl, λ h. refl)
-zero-is (suc n) = (λ h. never (sym h ∙ zero-no (suc n) ∙ le-leb 1 (suc n) (omega arith)), λ h. absurd (omega arith))
-
-three-four : RatioOutOfLimits ≡ OwnAddressZero → ⊥
-three-four = apart (λ h. omega arith)
-
-three-six : RatioOutOfLimits ≡ EnergyPastTop → ⊥
-three-six = apart (λ h. omega arith)
-
-four-six : OwnAddressZero ≡ EnergyPastTop → ⊥
-four-six = apart (λ h. omega arith)
+zero-is (suc n) = (λ h. absurd (false≢true (sym h ∙ zero-no (suc n) ∙ le-leb 1 (suc n) (omega arith))), λ h. absurd (omega arith))
 
 four : (a : ℕ) (r : Ratios) → (newOf a r .answer ≡ Refused OwnAddressZero) ↔ ((ratiosOk r ≡ true) × (a ≡ 0))
 four a r =
-    let f = second-fails _ _ _ three-four three-six four-six (ratiosOk r) (not (eqb a 0)) true in
+    let f = second-fails _ _ _ refl refl refl (ratiosOk r) (not (eqb a 0)) true in
     rw (new-answer a r) (λ h. (f .0 h .0, zero-is a .0 (f .0 h .1)), λ h. f .1 (h .0, zero-is a .1 (h .1)))
 
 new-accepted : (a : ℕ) (r : Ratios) → (newOf a r .answer ≡ Accepted) ↔ (meterOk (newOf a r .meter) ≡ true)
@@ -176,12 +152,12 @@ new-accepted a r =
     let within = ap meterOk (new-blank a r) ∙ blank-within a r in
     rw (new-answer a r, within) (
       λ h. let t = f .0 h in (λ i. (sym (zero-no a) ∙ t .1) i && t .0 i),
-      λ h. let t = both (leb 1 a) (ratiosOk r) h in f .1 (t .1, zero-no a ∙ t .0, refl),
+      λ h. let t = and-eq-true-iff (leb 1 a) (ratiosOk r) .0 h in f .1 (t .1, zero-no a ∙ t .0, refl),
     )
 
 pub new-answers : NewAnswers
 new-answers = record {
-  three = λ a r. rw (new-answer a r) (first-fails _ _ _ three-four three-six four-six (ratiosOk r) (not (eqb a 0)) true);
+  three = λ a r. rw (new-answer a r) (first-fails _ _ _ refl refl refl (ratiosOk r) (not (eqb a 0)) true);
   four = four;
   accepted = new-accepted;
 }
@@ -198,13 +174,10 @@ module _ (m : Meter) (standard output : List ℕ) where
       let k = meter-parts m hm in
       λ i. le-leb 1 (m .address) (k .address) i && k .ratios i && k .active i && k .reactive i && k .latest i && hs i
 
-  abbrev answered : Bool → Bool → Meter → Meter → Answered
-  answered b c m n = cond b (cond c (acceptedOf n) (refusedOf EnergyPastTop m)) (refusedOf SampleOutOfLimits m)
-
   abbrev changed : Answered → Answered
   changed r = record { answer = r .answer; meter = withSetup (r .meter) standard output }
 
-  same : (b c : Bool) (n : Meter) → answered b c other (withSetup n standard output) ≡ changed (answered b c m n)
+  same : (b c : Bool) (n : Meter) → chosen true b c other (withSetup n standard output) ≡ changed (chosen true b c m n)
   same true true n = refl
   same true false n = refl
   same false c n = refl

@@ -1,13 +1,13 @@
 -- What is known of a sample, an energy and a record that are within limits.
-use mathlib.Core.Path.{_≡_, ap}
-use mathlib.Core.Bool.{Bool, true, _&&_, _||_}
+use mathlib.Core.Path.{_≡_, refl, ap}
+use mathlib.Core.Bool.{Bool, true, false, _&&_, _||_, false≢true, and-eq-true-iff}
 use Prim.Native.Nat.{ℕ, _+_, _/_, _%_, _≤_}
 use native.Mathlib.Nat.{le-trans}
 use native.Mathlib.Omega.{arith}
 use lib.Dec.{leb, eqb}
 use lib.IntN.{natAbs}
-use borrow.Author.Tests.{leb-true}
-use Rattle.ratio.specs.Ratios.{ratiosOk}
+use borrow.Author.Tests.{leb-true, eqb-true}
+use Rattle.ratio.specs.Ratios.{ktaOk, ktvOk, ratiosOk}
 use Rattle.ratio.specs.Powers.{powerLimit}
 use Rattle.ratio.proofs.Powers.{power-laws}
 use Rattle.counts.specs.Energies.{topWh}
@@ -20,13 +20,21 @@ use Rattle.meter.specs.Samples.{threeOf, factorOf, phasesOk, powersOk, s
 use Rattle.meter.specs.Energies.{energyOk, energiesOk, ZeroToNeither}
 use Rattle.meter.specs.Meters.{meterT, setupWithin, meterOk}
 use Rattle.meter.specs.Fits.{Held, Room}
-use Rattle.meter.proofs.Tests.{both, one-or-two}
+
+-- a number that is 1 or 2
+pub two-at-most : (n : ℕ) → (eqb n 1 || eqb n 2) ≡ true → n ≤ 2
+two-at-most n h = by (eqb n 1) (eqb n 2) refl refl h
+  where
+    by : (a b : Bool) → eqb n 1 ≡ a → eqb n 2 ≡ b → (a || b) ≡ true → n ≤ 2
+    by true b e f t = omega (arith, eqb-true n 1 e)
+    by false true e f t = omega (arith, eqb-true n 2 f)
+    by false false e f t = absurd (false≢true t)
 
 -- phases within a limit, one by one
 pub phases-most : (limit : ℕ) (p : Powers) → phasesOk limit p ≡ true → (natAbs (p .l1) ≤ limit) × (natAbs (p .l2) ≤ limit) × (natAbs (p .l3) ≤ limit)
 phases-most limit p h =
-    let c = both (leb (natAbs (p .l1)) limit && leb (natAbs (p .l2)) limit) (leb (natAbs (p .l3)) limit) h in
-    let d = both (leb (natAbs (p .l1)) limit) (leb (natAbs (p .l2)) limit) (c .0) in
+    let c = and-eq-true-iff (leb (natAbs (p .l1)) limit && leb (natAbs (p .l2)) limit) (leb (natAbs (p .l3)) limit) .0 h in
+    let d = and-eq-true-iff (leb (natAbs (p .l1)) limit) (leb (natAbs (p .l2)) limit) .0 (c .0) in
     (leb-true _ _ (d .0), leb-true _ _ (d .1), leb-true _ _ (c .1))
 
 -- and so they can be added
@@ -38,10 +46,10 @@ phases-held t p h =
 
 module _ (t : ℕ) (p : Powers) (h : powersOk t p ≡ true) where
   pub powers-phases : phasesOk (powerLimit t) p ≡ true
-  powers-phases = both (phasesOk (powerLimit t) p) (leb (threeOf p .magnitude) (powerLimit t)) h .0
+  powers-phases = and-eq-true-iff (phasesOk (powerLimit t) p) (leb (threeOf p .magnitude) (powerLimit t)) .0 h .0
 
   pub powers-sum : threeOf p .magnitude ≤ powerLimit t
-  powers-sum = leb-true _ _ (both (phasesOk (powerLimit t) p) (leb (threeOf p .magnitude) (powerLimit t)) h .1)
+  powers-sum = leb-true _ _ (and-eq-true-iff (phasesOk (powerLimit t) p) (leb (threeOf p .magnitude) (powerLimit t)) .0 h .1)
 
 -- the test of phases and sum, by what was found of the phases
 pub powers-by : (t : ℕ) (p : Powers) {found : Bool} → phasesOk (powerLimit t) p ≡ found → powersOk t p ≡ (found && leb (threeOf p .magnitude) (powerLimit t))
@@ -53,7 +61,7 @@ pub record SampleParts (t : ℕ) (s : Sample) : Type 0 where
   pub apparent : s .s ≤ powerLimit t
   pub factor : factorOf (s .factor) .magnitude ≤ 1000
   pub sector : s .sector ≤ 2
-  pub sequence : (1 ≤ s .sequence) × (s .sequence ≤ 2)
+  pub sequence : (eqb (s .sequence) 1 || eqb (s .sequence) 2) ≡ true
 
 pub sample-parts : (t : ℕ) (s : Sample) → sampleOk t s ≡ true → SampleParts t s
 unfolding sampleOk
@@ -63,18 +71,18 @@ sample-parts t s h =
     let a = leb (s .s) (powerLimit t) in
     let f = leb (factorOf (s .factor) .magnitude) 1000 in
     let n = leb (s .sector) 2 in
-    let h5 = both (p && q && a && f && n) (eqb (s .sequence) 1 || eqb (s .sequence) 2) h in
-    let h4 = both (p && q && a && f) n (h5 .0) in
-    let h3 = both (p && q && a) f (h4 .0) in
-    let h2 = both (p && q) a (h3 .0) in
-    let h1 = both p q (h2 .0) in
+    let h5 = and-eq-true-iff (p && q && a && f && n) (eqb (s .sequence) 1 || eqb (s .sequence) 2) .0 h in
+    let h4 = and-eq-true-iff (p && q && a && f) n .0 (h5 .0) in
+    let h3 = and-eq-true-iff (p && q && a) f .0 (h4 .0) in
+    let h2 = and-eq-true-iff (p && q) a .0 (h3 .0) in
+    let h1 = and-eq-true-iff p q .0 (h2 .0) in
     record {
       p = h1 .0;
       q = h1 .1;
       apparent = leb-true _ _ (h2 .1);
       factor = leb-true _ _ (h3 .1);
       sector = leb-true _ _ (h4 .1);
-      sequence = one-or-two (s .sequence) (h5 .1);
+      sequence = h5 .1;
     }
 
 pub record MeterParts (m : Meter) : Type 0 where
@@ -93,11 +101,11 @@ meter-parts m h =
     let p = energiesOk (m .active) in
     let q = energiesOk (m .reactive) in
     let s = sampleOk (meterT m) (m .latest) in
-    let h5 = both (a && r && p && q && s) (setupWithin m) h in
-    let h4 = both (a && r && p && q) s (h5 .0) in
-    let h3 = both (a && r && p) q (h4 .0) in
-    let h2 = both (a && r) p (h3 .0) in
-    let h1 = both a r (h2 .0) in
+    let h5 = and-eq-true-iff (a && r && p && q && s) (setupWithin m) .0 h in
+    let h4 = and-eq-true-iff (a && r && p && q) s .0 (h5 .0) in
+    let h3 = and-eq-true-iff (a && r && p) q .0 (h4 .0) in
+    let h2 = and-eq-true-iff (a && r) p .0 (h3 .0) in
+    let h1 = and-eq-true-iff a r .0 (h2 .0) in
     record {
       address = leb-true _ _ (h1 .0);
       ratios = h1 .1;
@@ -107,12 +115,16 @@ meter-parts m h =
       setup = h5 .1;
     }
 
+-- its ratios, one by one
+pub ratio-parts : (m : Meter) → meterOk m ≡ true → (ktaOk (m .ratios .kta) ≡ true) × (ktvOk (m .ratios .ktv) ≡ true)
+ratio-parts m h = and-eq-true-iff (ktaOk (m .ratios .kta)) (ktvOk (m .ratios .ktv)) .0 (meter-parts m h .ratios)
+
 -- an energy within limits is at most its top
 pub energy-top : (e : Energy) → energyOk e ≡ true → e .wh .0 ≤ topWh
-energy-top e h = leb-true _ _ (both (leb (e .wh .0) topWh) (leb (e .remainder) 359999) h .0)
+energy-top e h = leb-true _ _ (and-eq-true-iff (leb (e .wh .0) topWh) (leb (e .remainder) 359999) .0 h .0)
 
 pub energy-rest : (e : Energy) → energyOk e ≡ true → e .remainder ≤ 359999
-energy-rest e h = leb-true _ _ (both (leb (e .wh .0) topWh) (leb (e .remainder) 359999) h .1)
+energy-rest e h = leb-true _ _ (and-eq-true-iff (leb (e .wh .0) topWh) (leb (e .remainder) 359999) .0 h .1)
 
 pub zero-to-neither : ZeroToNeither
 zero-to-neither = record {
@@ -126,7 +138,7 @@ zero-to-neither = record {
 -- a power within the limit has room in energies within limits
 pub energies-room : (es : Energies) (t : ℕ) (p : Powers) → energiesOk es ≡ true → powersOk t p ≡ true → Room es (threeOf p)
 energies-room es t p he hp =
-    let e = both (energyOk (es .positive)) (energyOk (es .negative)) he in
+    let e = and-eq-true-iff (energyOk (es .positive)) (energyOk (es .negative)) .0 he in
     record {
       positive = energy-top (es .positive) (e .0);
       negative = energy-top (es .negative) (e .1);

@@ -1,6 +1,7 @@
 // An energy: whole Wh (varh) and what is left over (paper 01, "The meter's record").
 ghost use mathlib.Core.Path.{_≡_};
 ghost use Prim.Native.Nat.{_≤_};
+ghost use Rattle.ratio.specs.Powers.{topPower};
 ghost use Rattle.counts.specs.Energies.{topWh};
 ghost use Rattle.meter.specs.Fits.{Room};
 ghost use Rattle.meter.specs.Energies.{energyOk, plusOf, energiesOk, withinTop, withPower};
@@ -23,7 +24,7 @@ impl Energy {
 
     // One second of a power in hundredths of a watt: whole Wh pass from the remainder.
     fn plus(self, power: u64) -> Energy
-        requires { ⌜ (self .wh .0 ≤ topWh) × (power ≤ 214748364799) ⌝ }
+        requires { ⌜ (self .wh .0 ≤ topWh) × (power ≤ topPower) ⌝ }
         ensures { λ r. ⌜ r ≡ plusOf self power ⌝ }
     {
         let sum = self.remainder as u64 + power;

@@ -3,7 +3,7 @@ use Prim.Native.Nat.{ℕ, _/_, _^_, _≤_, _<_}
 use mathlib.Core.Bool.{Bool, true, false, cond}
 use native.Mathlib.Omega.{arith}
 use lib.Dec.{ltb}
-use Rattle.ratio.specs.Powers.{powerUnit, powerLimit, PowerLaws, PowersFit}
+use Rattle.ratio.specs.Powers.{powerUnit, topPower, powerLimit, signWord, PowerLaws, PowersFit}
 
 some : (b : Bool) → 1 ≤ cond b 1 100
 some true = omega arith
@@ -13,7 +13,7 @@ most : (b : Bool) → cond b 1 100 ≤ 100
 most true = omega arith
 most false = omega arith
 
-limit : (b : Bool) → cond b 4294967295 214748364799 ≤ 214748364799
+limit : (b : Bool) → cond b 4294967295 topPower ≤ topPower
 limit true = omega arith
 limit false = omega arith
 
@@ -22,7 +22,7 @@ unfolding powerUnit powerLimit
 power-laws =
     record { some = λ t. some (ltb t 50000); most = λ t. most (ltb t 50000); limit = λ t. limit (ltb t 50000) }
 
-register : (b : Bool) (x : ℕ) → x ≤ cond b 4294967295 214748364799 → x / cond b 1 100 < 65536 ^ 2
+register : (b : Bool) (x : ℕ) → x ≤ cond b 4294967295 topPower → x / cond b 1 100 < 65536 ^ 2
 register true x h = omega arith
 register false x h = omega arith
 
@@ -33,3 +33,8 @@ powers-fit =
       register = λ t. register (ltb t 50000);
       signed = λ t x h. omega (arith, power-laws .limit t);
     }
+
+-- a sign word is 0 or 1
+pub sign-most : (negative : Bool) → signWord negative ≤ 1
+sign-most true = omega arith
+sign-most false = omega arith

@@ -10,9 +10,13 @@ use Rattle.words.specs.Signed.{twos}
 unfoldable pub powerUnit : ℕ → ℕ
 powerUnit t = cond (ltb t 50000) 1 100
 
+-- the larger power limit
+abbrev pub topPower : ℕ
+topPower = 214748364799
+
 -- power limit: 4,294,967,295 if T < 50,000, else 214,748,364,799
 unfoldable pub powerLimit : ℕ → ℕ
-powerLimit t = cond (ltb t 50000) 4294967295 214748364799
+powerLimit t = cond (ltb t 50000) 4294967295 topPower
 
 -- P, Q, S registers hold a magnitude in that unit, rounded down
 abbrev pub powerRegister : ℕ → ℕ → ℕ
@@ -38,7 +42,7 @@ factorThousandths negative thousandths = twos 2 negative thousandths
 pub record PowerLaws : Type 0 where
   pub some : (t : ℕ) → 1 ≤ powerUnit t
   pub most : (t : ℕ) → powerUnit t ≤ 100
-  pub limit : (t : ℕ) → powerLimit t ≤ 214748364799
+  pub limit : (t : ℕ) → powerLimit t ≤ topPower
 
 -- STATEMENT: what is within the limit fits its register, and in whole units also a signed L
 pub record PowersFit : Type 0 where

@@ -1,30 +1,47 @@
--- By kind: where a quantity is 64 × kind + which, its reading stands in the list at the kind.
+-- By kind: where a quantity is 64 × kind + which, its reading stands in the list at the kind; where the list has none, its value is impossible.
 use mathlib.Core.Path.{_≡_, refl, ap, _∙_}
 use mathlib.Core.Bool.{Bool, true, false, _&&_, cond}
-use mathlib.Core.List.{List, [], _∷_}
 use Prim.Native.Nat.{ℕ, zero, suc, _+_, _-_, _*_, _/_, _%_, _≤_, _<_}
 use native.Mathlib.Omega.{arith}
-use lib.Dec.{leb, ltb, eqb}
-use lib.ListN.{getD, List·getD-eq-default}
-use borrow.Author.Tests.{eqb-true, eqb-false, ltb-true, ltb-false}
+use lib.Dec.{leb, eqb}
+use lib.ListN.{getD, drop}
+use borrow.Author.Tests.{eqb-true, eqb-false}
 use Rattle.signed.specs.declared.Signed.{Signed}
 use Rattle.ratio.specs.Powers.{powerUnit}
 use Rattle.ratio.proofs.Powers.{power-laws}
+use Rattle.directory.proofs.ByKind.{kind-is, none-at}
+use Rattle.reading.specs.declared.Answer.{Answer}
 use Rattle.reading.specs.Readings.{impossible, times, unitOf, longs, shorts, longOf, wordOf}
 
 pub long-kind : (t q v k : ℕ) → q - q % 64 ≡ 64 * k → longOf t q v ≡ getD (longs t (q % 64) v) k impossible
 unfolding longOf
-long-kind t q v k h = ap (λ (i : ℕ). getD (longs t (q % 64) v) i impossible) is
-  where
-    is : q / 64 ≡ k
-    is = omega (arith, h)
+long-kind t q v k h = ap (λ (i : ℕ). getD (longs t (q % 64) v) i impossible) (kind-is q k h)
 
-pub word-kind : (q : ℕ) (b : Bool) (v k : ℕ) → (b && leb 256 v) ≡ false → q - q % 64 ≡ 64 * k → wordOf q b v ≡ getD (shorts v) k impossible
-unfolding wordOf
-word-kind q b v k h e = ap (λ (t : Bool). cond t impossible (getD (shorts v) (q / 64) impossible)) h ∙ ap (λ (i : ℕ). getD (shorts v) i impossible) is
+-- 0 and 8 stand among the kinds, and are no L's
+pub long-none : (t q v : ℕ) → (1 ≤ q / 64 → 8 ≤ q / 64) → (9 ≤ q / 64 → 10 ≤ q / 64) → longOf t q v ≡ impossible
+unfolding longOf
+long-none t q v below above = by (eqb (q / 64) 8) refl
   where
-    is : q / 64 ≡ k
-    is = omega (arith, e)
+    by : (b : Bool) → eqb (q / 64) 8 ≡ b → getD (longs t (q % 64) v) (q / 64) impossible ≡ impossible
+    by true e = ap (λ (i : ℕ). getD (longs t (q % 64) v) i impossible) (eqb-true (q / 64) 8 e)
+    by false e = none-at impossible 1 (drop 1 (longs t (q % 64) v)) (q / 64) (λ from. above (omega (arith, below from, eqb-false (q / 64) 8 e)))
+
+-- a W or B, its upper byte told
+module _ (q : ℕ) (b : Bool) (v : ℕ) where
+  abbrev upper : Bool → Answer
+  upper u = cond u impossible (getD (shorts v) (q / 64) impossible)
+
+  pub word-upper : (b && leb 256 v) ≡ true → wordOf q b v ≡ impossible
+  unfolding wordOf
+  word-upper h = ap upper h
+
+  pub word-kind : (k : ℕ) → (b && leb 256 v) ≡ false → q - q % 64 ≡ 64 * k → wordOf q b v ≡ getD (shorts v) k impossible
+  unfolding wordOf
+  word-kind k h e = ap upper h ∙ ap (λ (i : ℕ). getD (shorts v) i impossible) (kind-is q k e)
+
+  pub word-none : (b && leb 256 v) ≡ false → (8 ≤ q / 64 → 17 ≤ q / 64) → wordOf q b v ≡ impossible
+  unfolding wordOf
+  word-none h beyond = ap upper h ∙ none-at impossible 8 (drop 8 (shorts v)) (q / 64) beyond
 
 -- what is shown of each of n numbers from i on is so of every one of them
 abbrev pub Each : (ℕ → Type 0) → ℕ → ℕ → Type 0
@@ -39,128 +56,6 @@ pub each-at : (C : ℕ → Type 0) (i n k : ℕ) → Each C i n → i ≤ k → 
 each-at C i zero k h a b = absurd (omega (arith, a, b))
 each-at C i (suc n) k h a b =
     each-by C i k (eqb k i) refl (h .0) (λ other. each-at C (suc i) n k (h .1) (omega (arith, a, other)) (omega (arith, b)))
-
--- none of some numbers
-abbrev pub Not : List ℕ → ℕ → Type 0
-Not [] k = Unit
-Not (x ∷ xs) k = (k ≡ x → ⊥) × Not xs k
-
-pub away : (q j : ℕ) → (q - q % 64 ≡ 64 * j → ⊥) → q / 64 ≡ j → ⊥
-away q j h e = h (omega (arith, e))
-
--- the kinds that are an L's, and those of a W or B
-abbrev pub inLongs : List ℕ
-inLongs = 1 ∷ 2 ∷ 3 ∷ 4 ∷ 5 ∷ 6 ∷ 7 ∷ 9 ∷ []
-
-abbrev pub inShorts : List ℕ
-inShorts = 8 ∷ 9 ∷ 10 ∷ 11 ∷ 12 ∷ 13 ∷ 14 ∷ 15 ∷ 16 ∷ []
-
--- no other kind has a reading
-module _ (t w v : ℕ) where
-  abbrev NoLong : ℕ → Type 0
-  NoLong k = Not inLongs k → getD (longs t w v) k impossible ≡ impossible
-
-  no-longs : Each NoLong 0 10
-  no-longs = (
-    λ h. refl,
-    (
-      λ h. absurd (h .0 refl),
-      (
-        λ h. absurd (h .1 .0 refl),
-        (
-          λ h. absurd (h .1 .1 .0 refl),
-          (
-            λ h. absurd (h .1 .1 .1 .0 refl),
-            (
-              λ h. absurd (h .1 .1 .1 .1 .0 refl),
-              (
-                λ h. absurd (h .1 .1 .1 .1 .1 .0 refl),
-                (λ h. absurd (h .1 .1 .1 .1 .1 .1 .0 refl), (λ h. refl, (λ h. absurd (h .1 .1 .1 .1 .1 .1 .1 .0 refl), tt))),
-              ),
-            ),
-          ),
-        ),
-      ),
-    ),
-  )
-
-  pub no-long : (k : ℕ) → NoLong k
-  no-long k = by (ltb k 10) refl
-    where
-      by : (b : Bool) → ltb k 10 ≡ b → NoLong k
-      by true e = each-at NoLong 0 10 k no-longs (omega arith) (ltb-true k 10 e)
-      by false e = λ h. List·getD-eq-default (longs t w v) impossible (ltb-false k 10 e)
-
-module _ (v : ℕ) where
-  abbrev NoShort : ℕ → Type 0
-  NoShort k = Not inShorts k → getD (shorts v) k impossible ≡ impossible
-
-  no-shorts : Each NoShort 0 17
-  no-shorts = (
-    λ h. refl,
-    (
-      λ h. refl,
-      (
-        λ h. refl,
-        (
-          λ h. refl,
-          (
-            λ h. refl,
-            (
-              λ h. refl,
-              (
-                λ h. refl,
-                (
-                  λ h. refl,
-                  (
-                    λ h. absurd (h .0 refl),
-                    (
-                      λ h. absurd (h .1 .0 refl),
-                      (
-                        λ h. absurd (h .1 .1 .0 refl),
-                        (
-                          λ h. absurd (h .1 .1 .1 .0 refl),
-                          (
-                            λ h. absurd (h .1 .1 .1 .1 .0 refl),
-                            (
-                              λ h. absurd (h .1 .1 .1 .1 .1 .0 refl),
-                              (
-                                λ h. absurd (h .1 .1 .1 .1 .1 .1 .0 refl),
-                                (λ h. absurd (h .1 .1 .1 .1 .1 .1 .1 .0 refl), (λ h. absurd (h .1 .1 .1 .1 .1 .1 .1 .1 .0 refl), tt)),
-                              ),
-                            ),
-                          ),
-                        ),
-                      ),
-                    ),
-                  ),
-                ),
-              ),
-            ),
-          ),
-        ),
-      ),
-    ),
-  )
-
-  pub no-short : (k : ℕ) → NoShort k
-  no-short k = by (ltb k 17) refl
-    where
-      by : (b : Bool) → ltb k 17 ≡ b → NoShort k
-      by true e = each-at NoShort 0 17 k no-shorts (omega arith) (ltb-true k 17 e)
-      by false e = λ h. List·getD-eq-default (shorts v) impossible (ltb-false k 17 e)
-
-pub long-none : (t q v : ℕ) → Not inLongs (q / 64) → longOf t q v ≡ impossible
-unfolding longOf
-long-none t q v h = no-long t (q % 64) v (q / 64) h
-
-pub word-none : (q : ℕ) (b : Bool) (v : ℕ) → (b && leb 256 v) ≡ false → Not inShorts (q / 64) → wordOf q b v ≡ impossible
-unfolding wordOf
-word-none q b v h none = ap (λ (t : Bool). cond t impossible (getD (shorts v) (q / 64) impossible)) h ∙ no-short v (q / 64) none
-
-pub word-upper : (q : ℕ) (b : Bool) (v : ℕ) → (b && leb 256 v) ≡ true → wordOf q b v ≡ impossible
-unfolding wordOf
-word-upper q b v h = ap (λ (t : Bool). cond t impossible (getD (shorts v) (q / 64) impossible)) h
 
 -- a power's unit is at most 100
 pub unit-most : (t which : ℕ) → unitOf t which ≤ 100

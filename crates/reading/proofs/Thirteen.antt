@@ -1,18 +1,21 @@
 -- Refusal 13, kind by kind: what stands beside a reading in the list is what the row says of its kind.
 use mathlib.Core.Path.{_≡_, refl, sym, ap, _∙_}
 use mathlib.Core.Logic.{_↔_}
-use mathlib.Core.Bool.{Bool, true, false, _&&_, _||_, not, cond, false≢true}
+use mathlib.Core.Bool.{Bool, true, false, _&&_, _||_, not, cond, false≢true, or-false}
 use mathlib.Core.List.{List, [], _∷_}
 use Prim.Native.Nat.{ℕ, zero, suc, _+_, _*_, _/_, _%_}
 use native.Mathlib.Omega.{arith}
 use lib.Dec.{leb, ltb, eqb}
 use lib.ListN.{getD}
-use borrow.Author.Tests.{leb-true, leb-false, eqb-true, eqb-false, lt-ltb, le-ltb}
+use borrow.Author.Tests.{leb-true, leb-false, lt-ltb, le-ltb}
 use Rattle.words.specs.Signed.{magnitudeIn}
+use Rattle.ratio.specs.Ratios.{ktaOk, ktvOk}
+use Rattle.counts.specs.Energies.{topCount, topLow, topHigh}
 use Rattle.directory.specs.declared.Item.{Item}
 use Rattle.directory.specs.Item.{none}
 use Rattle.directory.specs.Run.{isL}
 use Rattle.directory.specs.Table.{directory}
+use Rattle.directory.proofs.ByKind.{_also_}
 use Rattle.reading.specs.declared.Quantity.{Quantity}
 use Rattle.reading.specs.declared.Quantity.the-variants.{Voltage, Current, Power, SignedPower, Low, High, Wrap, Factor, Sign, Sector, Frequency, Kta, Ktv, Sequence, Plain}
 use Rattle.reading.specs.declared.Answer.{Answer}
@@ -43,35 +46,29 @@ upper : (u x : Bool) (a : Answer) → RefusedWhen a x → RefusedWhen (cond u im
 upper true x a h = (λ g. refl, λ g. refl)
 upper false x a h = h
 
-over : (v top : ℕ) → (ltb top v || false) ≡ not (leb v top)
-over v top = by (leb v top) refl
+-- a value with a top
+reads-to : (v top : ℕ) (q : Quantity) → RefusedWhen (when (leb v top) q) (ltb top v || false)
+reads-to v top q = by (leb v top) refl
   where
-    by : (t : Bool) → leb v top ≡ t → (ltb top v || false) ≡ not t
-    by true e = rw (le-ltb top v (leb-true v top e)) refl
-    by false e = rw (lt-ltb top v (leb-false v top e)) refl
-
-or-none : (x : Bool) → (x || false) ≡ x
-or-none true = refl
-or-none false = refl
-
-one-or-two : (v : ℕ) → (eqb v 1 || eqb v 2) ≡ (leb 1 v && leb v 2)
-one-or-two v = by (eqb v 1) (eqb v 2) refl refl
-  where
-    by : (a b : Bool) → eqb v 1 ≡ a → eqb v 2 ≡ b → (a || b) ≡ (leb 1 v && leb v 2)
-    by true b e f = rw (eqb-true v 1 e) refl
-    by false true e f = rw (eqb-true v 2 f) refl
-    by false false e f = below (leb 1 v) (leb v 2) refl refl
-      where
-        below : (a b : Bool) → leb 1 v ≡ a → leb v 2 ≡ b → false ≡ (a && b)
-        below false b g h = refl
-        below true false g h = refl
-        below true true g h = absurd (omega (arith, leb-true 1 v g, leb-true v 2 h, eqb-false v 1 e, eqb-false v 2 f))
+    by : (t : Bool) → leb v top ≡ t → RefusedWhen (when t q) (ltb top v || false)
+    by true e = reads-when true _ q (rw (le-ltb top v (leb-true v top e)) refl)
+    by false e = reads-when false _ q (rw (lt-ltb top v (leb-false v top e)) refl)
 
 -- the row by kind, for an item that is or is not a B, and is or is not an L
 abbrev row : ℕ → Bool → Bool → ℕ → Bool
 row k b l v =
     oneOf
-    ((b && leb 256 v) ∷ (eqb k 10 && ltb 1 v) ∷ (eqb k 11 && ltb 2 v) ∷ (eqb k 15 && not (eqb v 1 || eqb v 2)) ∷ (eqb k 5 && ltb 99999999 v) ∷ (eqb k 6 && ltb 999999 v) ∷ (eqb k 7 && ltb 65535999 v) ∷ (eqb k 9 && cond l (ltb 1000 (magnitudeIn 2 v)) (ltb 100 (magnitudeIn 1 v))) ∷ (eqb k 13 && not (leb 1 v && leb v 9999)) ∷ (eqb k 14 && not (leb 10 v && leb v 9999)) ∷ [])
+    ((b && leb 256 v) ∷
+    (eqb k 10 && ltb 1 v) ∷
+    (eqb k 11 && ltb 2 v) ∷
+    (eqb k 15 && not (eqb v 1 || eqb v 2)) ∷
+    (eqb k 5 && ltb topCount v) ∷
+    (eqb k 6 && ltb topLow v) ∷
+    (eqb k 7 && ltb topHigh v) ∷
+    (eqb k 9 && cond l (ltb 1000 (magnitudeIn 2 v)) (ltb 100 (magnitudeIn 1 v))) ∷
+    (eqb k 13 && not (ktaOk v)) ∷
+    (eqb k 14 && not (ktvOk v)) ∷
+    [])
 
 -- an L, by kind; there is no L of a wrap
 module _ (t w v : ℕ) where
@@ -80,31 +77,17 @@ module _ (t w v : ℕ) where
 
   long-rows : Each LongRow 1 9
   unfolding oneOf
-  long-rows = (
-    λ h. reads-always (Voltage v),
-    (
-      λ h. reads-always (Current v),
-      (
-        λ h. reads-always (Power (v * unitOf t w)),
-        (
-          λ h. reads-always (SignedPower (signedIn 2 v)),
-          (
-            λ h. reads-when (leb v 99999999) _ (counted t v) (over v 99999999),
-            (
-              λ h. reads-when (leb v 999999) _ (Low v) (over v 999999),
-              (
-                λ h. reads-when (leb v 65535999) _ (High v) (over v 65535999),
-                (
-                  λ h. absurd (h refl),
-                  (λ h. reads-when (leb (magnitudeIn 2 v) 1000) _ (Factor (signedIn 2 v)) (over (magnitudeIn 2 v) 1000), tt),
-                ),
-              ),
-            ),
-          ),
-        ),
-      ),
-    ),
-  )
+  long-rows =
+      (λ h. reads-always (Voltage v)) also
+      (λ h. reads-always (Current v)) also
+      (λ h. reads-always (Power (v * unitOf t w))) also
+      (λ h. reads-always (SignedPower (signedIn 2 v))) also
+      (λ h. reads-to v topCount (counted t v)) also
+      (λ h. reads-to v topLow (Low v)) also
+      (λ h. reads-to v topHigh (High v)) also
+      (λ h. absurd (h refl)) also
+      (λ h. reads-to (magnitudeIn 2 v) 1000 (Factor (signedIn 2 v))) also
+      tt
 
 -- a W or B, by kind
 module _ (b : Bool) (v : ℕ) where
@@ -115,7 +98,16 @@ module _ (b : Bool) (v : ℕ) where
   unfolding oneOf
   short-rows =
       let u = upper (b && leb 256 v) in
-      (u _ _ (reads-always (Wrap v)), (u _ _ (reads-when (leb (magnitudeIn 1 v) 100) _ (Factor (times 10 (signedIn 1 v))) (over (magnitudeIn 1 v) 100)), (u _ _ (reads-when (leb v 1) _ (Sign v) (over v 1)), (u _ _ (reads-when (leb v 2) _ (Sector v) (over v 2)), (u _ _ (reads-always (Frequency v)), (u _ _ (reads-when (leb 1 v && leb v 9999) _ (Kta v) (or-none _)), (u _ _ (reads-when (leb 10 v && leb v 9999) _ (Ktv v) (or-none _)), (u _ _ (reads-when (leb 1 v && leb v 2) _ (Sequence v) (or-none _ ∙ ap not (one-or-two v))), (u _ _ (reads-always (Plain v)), tt)))))))))
+      u _ _ (reads-always (Wrap v)) also
+      u _ _ (reads-to (magnitudeIn 1 v) 100 (Factor (times 10 (signedIn 1 v)))) also
+      u _ _ (reads-to v 1 (Sign v)) also
+      u _ _ (reads-to v 2 (Sector v)) also
+      u _ _ (reads-always (Frequency v)) also
+      u _ _ (reads-when (ktaOk v) _ (Kta v) (or-false _)) also
+      u _ _ (reads-when (ktvOk v) _ (Ktv v) (or-false _)) also
+      u _ _ (reads-when (eqb v 1 || eqb v 2) _ (Sequence v) (or-false _)) also
+      u _ _ (reads-always (Plain v)) also
+      tt
 
 -- ---- an item
 
@@ -177,11 +169,38 @@ numbered-at k (a ∷ l) h (suc i) = numbered (numbered-at (suc k) l (h .1) i) (o
 
 long-numbers : (t w v : ℕ) → Numbered 0 (longs t w v)
 long-numbers t w v =
-    (reads-none 0, (reads-kind _, (reads-kind _, (reads-kind _, (reads-kind _, (reads-if (leb v 99999999) (counted t v), (reads-if (leb v 999999) (Low v), (reads-if (leb v 65535999) (High v), (reads-none 8, (reads-if (leb (magnitudeIn 2 v) 1000) (Factor (signedIn 2 v)), tt))))))))))
+    reads-none 0 also
+    reads-kind _ also
+    reads-kind _ also
+    reads-kind _ also
+    reads-kind _ also
+    reads-if (leb v topCount) (counted t v) also
+    reads-if (leb v topLow) (Low v) also
+    reads-if (leb v topHigh) (High v) also
+    reads-none 8 also
+    reads-if (leb (magnitudeIn 2 v) 1000) (Factor (signedIn 2 v)) also
+    tt
 
 short-numbers : (v : ℕ) → Numbered 0 (shorts v)
 short-numbers v =
-    (reads-none 0, (reads-none 1, (reads-none 2, (reads-none 3, (reads-none 4, (reads-none 5, (reads-none 6, (reads-none 7, (reads-kind _, (reads-if (leb (magnitudeIn 1 v) 100) (Factor (times 10 (signedIn 1 v))), (reads-if (leb v 1) (Sign v), (reads-if (leb v 2) (Sector v), (reads-kind _, (reads-if (leb 1 v && leb v 9999) (Kta v), (reads-if (leb 10 v && leb v 9999) (Ktv v), (reads-if (leb 1 v && leb v 2) (Sequence v), (reads-kind _, tt)))))))))))))))))
+    reads-none 0 also
+    reads-none 1 also
+    reads-none 2 also
+    reads-none 3 also
+    reads-none 4 also
+    reads-none 5 also
+    reads-none 6 also
+    reads-none 7 also
+    reads-kind _ also
+    reads-if (leb (magnitudeIn 1 v) 100) (Factor (times 10 (signedIn 1 v))) also
+    reads-if (leb v 1) (Sign v) also
+    reads-if (leb v 2) (Sector v) also
+    reads-kind _ also
+    reads-if (ktaOk v) (Kta v) also
+    reads-if (ktvOk v) (Ktv v) also
+    reads-if (eqb v 1 || eqb v 2) (Sequence v) also
+    reads-kind _ also
+    tt
 
 pub item-entry : (t : ℕ) (it : Item) (v : ℕ) → Entry (it .quantity / 64) (readingOf t it v)
 unfolding longOf wordOf

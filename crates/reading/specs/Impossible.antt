@@ -7,6 +7,8 @@ use mathlib.Core.List.{List, [], _∷_}
 use lib.Dec.{leb, ltb, eqb}
 use lib.ListN.{length, getD}
 use Rattle.words.specs.Signed.{magnitudeIn}
+use Rattle.ratio.specs.Ratios.{ktaOk, ktvOk}
+use Rattle.counts.specs.Energies.{topCount, topLow, topHigh}
 use Rattle.directory.specs.declared.Item.{Item}
 use Rattle.directory.specs.Item.{none}
 use Rattle.directory.specs.Table.{directory}
@@ -34,14 +36,14 @@ thirteen it v = oneOf (
     (isKind 11 it && ltb 2 v) ∷
     (isKind 15 it && not (eqb v 1 || eqb v 2)) ∷
     -- energy register over 99,999,999; Low over 999,999; High over 65,535,999
-    (isKind 5 it && ltb 99999999 v) ∷
-    (isKind 6 it && ltb 999999 v) ∷
-    (isKind 7 it && ltb 65535999 v) ∷
+    (isKind 5 it && ltb topCount v) ∷
+    (isKind 6 it && ltb topLow v) ∷
+    (isKind 7 it && ltb topHigh v) ∷
     -- factor beyond 100 hundredths (one word) or 1,000 thousandths (two) in magnitude
     (isKind 9 it && cond (isL it) (ltb 1000 (magnitudeIn 2 v)) (ltb 100 (magnitudeIn 1 v))) ∷
     -- KTA or KTV item out of limits
-    (isKind 13 it && not (leb 1 v && leb v 9999)) ∷
-    (isKind 14 it && not (leb 10 v && leb v 9999)) ∷
+    (isKind 13 it && not (ktaOk v)) ∷
+    (isKind 14 it && not (ktvOk v)) ∷
     [])
 
 -- STATEMENT: an item of the directory is refused with 13 exactly when its value is in the row; else its reading is of its quantity's kind

@@ -1,17 +1,19 @@
 -- Paper 01, "Collector": what the words of an item read as, kind by kind in the order of its list, in its units; and beside each
 -- reading what makes its value impossible (refusal 13).
 use Prim.Native.Nat.{ℕ, _*_, _/_, _%_}
-use mathlib.Core.Bool.{Bool, _&&_, cond}
+use mathlib.Core.Bool.{Bool, _&&_, _||_, cond}
 use mathlib.Core.List.{List, [], _∷_, _++_}
-use lib.Dec.{leb, ltb, eqb}
+use lib.Dec.{leb, eqb}
 use lib.ListN.{getD, replicate}
 use Rattle.refusal.specs.declared.Refusal.the-variants.{ValueImpossible}
 use Rattle.signed.specs.declared.Signed.{Signed}
 use Rattle.words.specs.Signed.{negativeIn, magnitudeIn}
+use Rattle.ratio.specs.Ratios.{ktaOk, ktvOk}
 use Rattle.ratio.specs.Powers.{powerUnit}
 use Rattle.ratio.specs.Steps.{stepOf}
-use Rattle.counts.specs.Energies.{energyOf}
+use Rattle.counts.specs.Energies.{topCount, topLow, topHigh, energyOf}
 use Rattle.directory.specs.declared.Item.{Item}
+use Rattle.directory.specs.Item.{inBytes}
 use Rattle.directory.specs.Quantity.{wholeS}
 use Rattle.directory.specs.Run.{isL}
 use Rattle.reading.specs.declared.Quantity.{Quantity}
@@ -53,9 +55,9 @@ longs t which v =
     Reading (Power (v * unitOf t which)) ∷
     Reading (SignedPower (signedIn 2 v)) ∷
     -- energy register over 99,999,999; Low over 999,999; High over 65,535,999: not so
-    when (leb v 99999999) (counted t v) ∷
-    when (leb v 999999) (Low v) ∷
-    when (leb v 65535999) (High v) ∷
+    when (leb v topCount) (counted t v) ∷
+    when (leb v topLow) (Low v) ∷
+    when (leb v topHigh) (High v) ∷
     -- no wrap; factor beyond 1,000 thousandths in magnitude: not so
     impossible ∷
     when (leb (signedIn 2 v .magnitude) 1000) (Factor (signedIn 2 v)) ∷
@@ -74,9 +76,9 @@ shorts v =
     when (leb v 2) (Sector v) ∷
     Reading (Frequency v) ∷
     -- KTA or KTV item out of limits; sequence not 1 or 2: not so; plain word
-    when (leb 1 v && leb v 9999) (Kta v) ∷
-    when (leb 10 v && leb v 9999) (Ktv v) ∷
-    when (leb 1 v && leb v 2) (Sequence v) ∷
+    when (ktaOk v) (Kta v) ∷
+    when (ktvOk v) (Ktv v) ∷
+    when (eqb v 1 || eqb v 2) (Sequence v) ∷
     Reading (Plain v) ∷
     [])
 
@@ -90,7 +92,7 @@ wordOf q b v = cond (b && leb 256 v) impossible (getD (shorts v) (q / 64) imposs
 
 -- B stands in the byte block alone, where it fills 1
 abbrev pub isB : Item → Bool
-isB it = ltb (it .start) 0x1000 && eqb (it .fills) 1
+isB it = inBytes it && eqb (it .fills) 1
 
 -- an item of value v
 abbrev pub readingOf : ℕ → Item → ℕ → Answer

@@ -101,7 +101,7 @@ pub fn word(quantity: u16, byte: bool, value: u16) -> Answer
             (Ratios::KTV_LEAST <= value) & (value <= Ratios::KTV_TOP),
             Quantity::Ktv(value),
         ),
-        SEQUENCE => when((1 <= value) & (value <= 2), Quantity::Sequence(value)),
+        SEQUENCE => when((value == 1) | (value == 2), Quantity::Sequence(value)),
         PLAIN => Answer::Reading(Quantity::Plain(value)),
         _ => Answer::Refused(Refusal::ValueImpossible),
     }

@@ -1,23 +1,23 @@
 -- The lists of values, taken at an index: what is mapped over a list is the function of the list's element there.
 use mathlib.Core.Path.{_≡_, refl, sym, ap, _∙_}
-use mathlib.Core.Bool.{Bool, true, false}
+use mathlib.Core.Bool.{Bool, true, false, and-eq-true-iff}
 use mathlib.Core.List.{List, [], _∷_, _++_, map}
 use Prim.Native.Nat.{ℕ, zero, suc, _+_, _-_, _*_, _/_, _%_, _≤_, zero-le}
 use native.Mathlib.Nat.{zero-div}
 use native.Mathlib.Omega.{arith}
 use lib.Dec.{ltb}
 use borrow.Author.Tests.{ltb-true, ltb-false}
-use lib.ListN.{length, getD, List·getD-map, List·getD-append, List·getD-eq-default}
+use lib.ListN.{length, getD, drop, List·getD-map, List·getD-append, List·getD-eq-default}
 use lib.Seq.{getD-append-add}
 use Rattle.signed.specs.declared.Signed.{Signed}
 use Rattle.words.proofs.Signs.{twos-plain}
 use Rattle.ratio.specs.Powers.{powerLimit, powerRegister, signWord, signedPower}
 use Rattle.counts.specs.Energies.{topWh, registerOf, wrapOf, lowOf, highOf}
+use Rattle.directory.proofs.ByKind.{kind-is, none-at}
 use Rattle.meter.specs.declared.energies.Energy.{Energy}
 use Rattle.meter.specs.declared.Meter.{Meter}
 use Rattle.meter.specs.Energies.{energyOk}
 use Rattle.meter.specs.Meters.{meterT, meterOk, energiesOf, energyAt}
-use Rattle.meter.proofs.Tests.{both}
 use Rattle.meter.proofs.Parts.{meter-parts, sample-parts, phases-most, powers-phases, powers-sum, energy-top}
 use Rattle.registers.specs.Shown.{powersOf, powerAt, powerValues, signedValues, signValues, countValues, lowValues, highValues, wrapValues, plainValues, valuesOf, shownOf}
 
@@ -45,10 +45,10 @@ module _ (m : Meter) (which : ℕ) where
 
 -- an energy of a meter within limits is within its own, and at most its top
 pub energy-within : (m : Meter) (which : ℕ) → meterOk m ≡ true → energyOk (energyAt which m) ≡ true
-energy-within m zero h = both (energyOk (m .active .positive)) (energyOk (m .active .negative)) (meter-parts m h .active) .0
-energy-within m (suc zero) h = both (energyOk (m .active .positive)) (energyOk (m .active .negative)) (meter-parts m h .active) .1
-energy-within m (suc (suc zero)) h = both (energyOk (m .reactive .positive)) (energyOk (m .reactive .negative)) (meter-parts m h .reactive) .0
-energy-within m (suc (suc (suc zero))) h = both (energyOk (m .reactive .positive)) (energyOk (m .reactive .negative)) (meter-parts m h .reactive) .1
+energy-within m zero h = and-eq-true-iff (energyOk (m .active .positive)) (energyOk (m .active .negative)) .0 (meter-parts m h .active) .0
+energy-within m (suc zero) h = and-eq-true-iff (energyOk (m .active .positive)) (energyOk (m .active .negative)) .0 (meter-parts m h .active) .1
+energy-within m (suc (suc zero)) h = and-eq-true-iff (energyOk (m .reactive .positive)) (energyOk (m .reactive .negative)) .0 (meter-parts m h .reactive) .0
+energy-within m (suc (suc (suc zero))) h = and-eq-true-iff (energyOk (m .reactive .positive)) (energyOk (m .reactive .negative)) .0 (meter-parts m h .reactive) .1
 energy-within m (suc (suc (suc (suc which)))) h = refl
 
 pub energy-most : (m : Meter) (which : ℕ) → meterOk m ≡ true → energyAt which m .wh .0 ≤ topWh
@@ -136,36 +136,11 @@ plain-at m (suc (suc (suc k))) h = ap (λ (i : ℕ). getD (m .standard ++ m .out
 
 -- ---- kinds
 
--- a number that is not k is beyond it
-pub onward : {n : ℕ} (k : ℕ) → k ≤ n → (n ≡ k → ⊥) → suc k ≤ n
-onward k h other = omega (arith, h, other)
-
--- the same of a kind, by the first of its quantities
-pub kind-onward : (q k : ℕ) → k ≤ q / 64 → (q - q % 64 ≡ 64 * k → ⊥) → suc k ≤ q / 64
-kind-onward q k h other = onward k h (λ e. other (starts e))
-  where
-    starts : q / 64 ≡ k → q - q % 64 ≡ 64 * k
-    starts e = omega (arith, e)
-
 module _ (m : Meter) (q : ℕ) where
   pub shown-kind : (k : ℕ) → q - q % 64 ≡ 64 * k → shownOf m q ≡ getD (getD (valuesOf m) k []) (q % 64) 0
   unfolding shownOf
-  shown-kind k h = ap (λ (i : ℕ). getD (getD (valuesOf m) i []) (q % 64) 0) is
-    where
-      is : q / 64 ≡ k
-      is = omega (arith, h)
-
-  shown-below : q / 64 ≡ 0 → shownOf m q ≡ 0
-  unfolding shownOf
-  shown-below h = ap (λ (i : ℕ). getD (getD (valuesOf m) i []) (q % 64) 0) h
-
-  shown-beyond : 17 ≤ q / 64 → shownOf m q ≡ 0
-  unfolding shownOf
-  shown-beyond h = ap (λ (l : List ℕ). getD l (q % 64) 0) (List·getD-eq-default (valuesOf m) [] h)
+  shown-kind k h = ap (λ (i : ℕ). getD (getD (valuesOf m) i []) (q % 64) 0) (kind-is q k h)
 
   pub shown-none : (1 ≤ q / 64 → 17 ≤ q / 64) → shownOf m q ≡ 0
-  shown-none h = by (ltb 0 (q / 64)) refl
-    where
-      by : (t : Bool) → ltb 0 (q / 64) ≡ t → shownOf m q ≡ 0
-      by true e = shown-beyond (h (ltb-true 0 (q / 64) e))
-      by false e = shown-below (omega (arith, ltb-false 0 (q / 64) e))
+  unfolding shownOf
+  shown-none beyond = ap (λ (l : List ℕ). getD l (q % 64) 0) (none-at [] 1 (drop 1 (valuesOf m)) (q / 64) beyond)

@@ -1,6 +1,6 @@
 -- The values beside the widths of their quantities: the lists are as long as each other, and each value fits its bytes.
 use mathlib.Core.Path.{_≡_, refl, sym, ap, _∙_}
-use mathlib.Core.Bool.{Bool, true, false, cond, _&&_}
+use mathlib.Core.Bool.{Bool, true, false, and-eq-true-iff}
 use mathlib.Core.List.{List, [], _∷_, _++_}
 use Prim.Native.Nat.{ℕ, zero, suc, _+_, _/_, _%_, _^_, _≤_, _<_}
 use native.Mathlib.Nat.{lt-of-lt-of-le, pow-le-pow-right}
@@ -9,18 +9,18 @@ use lib.Dec.{eqb, leb}
 use borrow.Author.Tests.{eqb-true, eqb-false, leb-true}
 use lib.ListN.{length, getD, take, replicate, getD-replicate, length-append, List·getD-append}
 use Rattle.words.proofs.Signs.{twos-fits}
-use Rattle.ratio.proofs.Powers.{powers-fit}
+use Rattle.ratio.proofs.Powers.{powers-fit, sign-most}
 use Rattle.counts.proofs.Joins.{counts-fit}
 use Rattle.directory.specs.Quantity.{quantity, energyCount, low, high, wrap, widths, widthOf}
 use Rattle.directory.specs.Order.{roomOf}
 use Rattle.directory.specs.Table.{directory}
 use Rattle.directory.specs.Item.{none}
+use Rattle.directory.proofs.ByKind.{_also_}
 use Rattle.directory.proofs.Rules.{directory-rules}
 use Rattle.meter.specs.declared.Meter.{Meter}
 use Rattle.meter.specs.Samples.{factorOf}
 use Rattle.meter.specs.Meters.{meterT, meterOk, withSetup, energyAt}
-use Rattle.meter.proofs.Tests.{both}
-use Rattle.meter.proofs.Parts.{SampleParts, sample-parts, meter-parts}
+use Rattle.meter.proofs.Parts.{two-at-most, SampleParts, sample-parts, meter-parts, ratio-parts}
 use Rattle.registers.specs.Shown.{powerAt, powerValues, signedValues, signValues, countValues, lowValues, highValues, wrapValues, factorValues, plainValues, valuesOf, shownOf}
 use Rattle.registers.specs.Cases.{Typed, EveryCase, SetupUnseen}
 use Rattle.registers.proofs.Values.{count-at, low-at, high-at, wrap-at, energy-most, signed-at, sign-at, power-s, power-whole, power-at, power-most}
@@ -147,11 +147,7 @@ module _ (m : Meter) (typed : Typed m) (h : meterOk m ≡ true) where
       (omega (arith, powers-fit .signed (meterT m) (powerAt (m .latest) i .magnitude) (power-most m i h))))
 
   sign-fits : (i : ℕ) → getD (signValues m) i 0 < 256 ^ 1
-  sign-fits i = rw (sign-at m i) (pick (powerAt (m .latest) i .negative))
-    where
-      pick : (t : Bool) → cond t 1 0 < 256 ^ 1
-      pick true = omega arith
-      pick false = omega arith
+  sign-fits i = rw (sign-at m i) (omega (arith, sign-most (powerAt (m .latest) i .negative)))
 
   factor-fits : Fit (factorValues (factorOf (m .latest .factor))) (2 ∷ 4 ∷ [])
   unfolding factorValues
@@ -168,63 +164,30 @@ module _ (m : Meter) (typed : Typed m) (h : meterOk m ≡ true) where
   ratio-tops : (m .ratios .kta ≤ 9999) × (m .ratios .ktv ≤ 9999)
   ratio-tops =
       let r = m .ratios in
-      let t = both (leb 1 (r .kta) && leb (r .kta) 9999) (leb 10 (r .ktv) && leb (r .ktv) 9999) (meter-parts m h .ratios) in
-      (leb-true _ _ (both (leb 1 (r .kta)) (leb (r .kta) 9999) (t .0) .1), leb-true _ _ (both (leb 10 (r .ktv)) (leb (r .ktv) 9999) (t .1) .1))
+      let t = ratio-parts m h in
+      (leb-true _ _ (and-eq-true-iff (leb 1 (r .kta)) (leb (r .kta) 9999) .0 (t .0) .1), leb-true _ _ (and-eq-true-iff (leb 10 (r .ktv)) (leb (r .ktv) 9999) .0 (t .1) .1))
 
   values-fit : Fits (valuesOf m) widths
   unfolding powerValues signedValues signValues countValues lowValues highValues wrapValues
-  values-fit = (
-    tt,
-    (
-      all-fit 4 6 (m .latest .voltages) (typed .voltages) (typed .voltage),
-      (
-        all-fit 4 4 (m .latest .currents) (typed .currents) (typed .current),
-        (
-          all-fit 4 10 (powerValues m) refl power-fits,
-          (
-            all-fit 4 8 (signedValues m) refl signed-fits,
-            (
-              all-fit 4 4 (countValues m) refl (count-fits m h),
-              (
-                all-fit 4 4 (lowValues m) refl (low-fits m h),
-                (
-                  all-fit 4 4 (highValues m) refl (high-fits m h),
-                  (
-                    all-fit 2 4 (wrapValues m) refl (wrap-fits m h),
-                    (
-                      factor-fits,
-                      (
-                        all-fit 1 8 (signValues m) refl sign-fits,
-                        (
-                          (omega (arith, parts .sector), tt),
-                          (
-                            (typed .frequency, tt),
-                            (
-                              (omega (arith, ratio-tops), tt),
-                              (
-                                (omega (arith, ratio-tops), tt),
-                                (
-                                  (omega (arith, parts .sequence), tt),
-                                  (
-                                    plain-fits,
-                                    tt,
-                                  ),
-                                ),
-                              ),
-                            ),
-                          ),
-                        ),
-                      ),
-                    ),
-                  ),
-                ),
-              ),
-            ),
-          ),
-        ),
-      ),
-    ),
-  )
+  values-fit =
+      tt also
+      all-fit 4 6 (m .latest .voltages) (typed .voltages) (typed .voltage) also
+      all-fit 4 4 (m .latest .currents) (typed .currents) (typed .current) also
+      all-fit 4 10 (powerValues m) refl power-fits also
+      all-fit 4 8 (signedValues m) refl signed-fits also
+      all-fit 4 4 (countValues m) refl (count-fits m h) also
+      all-fit 4 4 (lowValues m) refl (low-fits m h) also
+      all-fit 4 4 (highValues m) refl (high-fits m h) also
+      all-fit 2 4 (wrapValues m) refl (wrap-fits m h) also
+      factor-fits also
+      all-fit 1 8 (signValues m) refl sign-fits also
+      (omega (arith, parts .sector), tt) also
+      (typed .frequency, tt) also
+      (omega (arith, ratio-tops), tt) also
+      (omega (arith, ratio-tops), tt) also
+      (omega (arith, two-at-most (m .latest .sequence) (parts .sequence)), tt) also
+      plain-fits also
+      tt
 
   case : (q : ℕ) → 1 ≤ widthOf q → q % 64 < length (getD (valuesOf m) (q / 64) [])
   case q w = fit-case (getD (valuesOf m) (q / 64) []) (getD widths (q / 64) []) (fits-at (valuesOf m) widths values-fit (q / 64)) (q % 64) w
@@ -238,7 +201,7 @@ module _ (m : Meter) (typed : Typed m) (h : meterOk m ≡ true) where
 known : (i : ℕ) → i < length directory → (1 ≤ widthOf (getD directory i none .quantity)) × (widthOf (getD directory i none .quantity) ≤ roomOf (getD directory i none))
 known i h =
     let it = getD directory i none in
-    let t = both (leb 1 (widthOf (it .quantity))) (leb (widthOf (it .quantity)) (roomOf it)) (directory-rules .meanings i h) in
+    let t = and-eq-true-iff (leb 1 (widthOf (it .quantity))) (leb (widthOf (it .quantity)) (roomOf it)) .0 (directory-rules .meanings i h) in
     (leb-true _ _ (t .0), leb-true _ _ (t .1))
 
 -- what fits its bytes has room in its item

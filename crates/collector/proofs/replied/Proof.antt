@@ -12,6 +12,7 @@ use Rattle.directory.specs.Table.{directory}
 use Rattle.directory.specs.Run.{runItems}
 use Rattle.modbus.proofs.Frames.{neither}
 use Rattle.modbus.proofs.Judged.{LegalRead, legal-read}
+use Rattle.collector.specs.Collector.{lengthWrong}
 use Rattle.collector.proofs.Judged.{length-refused, crc-refused, foreign-refused, error-given, misfit-refused, item-given, misfit-read, fitting}
 use borrow.Author.Needs.{needs}
 use Rattle.collector.proofs.replied.Statement.{statement}
@@ -23,6 +24,20 @@ long reply h = ltb-false (length reply) 5 (neither (ltb (length reply) 5) (ltb 2
 
 asked : (s : tie.Start) → LegalRead (s .args .request .now) (s .args .first) (s .args .count)
 asked s = legal-read (s .pre .1)
+
+-- where 8 and 9 are passed
+abbrev start : tie.Else2 → tie.Start
+start e = e .before .before .before .before .before .before
+
+right-length : (e : tie.Else2) → lengthWrong (start e .args .reply .now) ≡ false
+right-length e = e .before .before .if1 .left
+
+whole : (e : tie.Else2) → intact (start e .args .reply .now) ≡ true
+whole e = sym (e .before .intact .ensures) ∙ not-false _ (e .if2 .left)
+
+-- and 10, and it is no error reply
+abbrev sound : tie.Else4 → tie.Else2
+sound e = e .before .before .before .before .before
 
 returns : tie.Need-returns
 returns c =
@@ -50,19 +65,20 @@ shared-slice-read-if3-2 c = omega (arith, asked (c .before .before .before .befo
 
 returns-3 : tie.Need-returns-3
 returns-3 c =
-    let a = c .before .before .before .before .before .before .before .before .before .before .args in
-    foreign-refused (a .tenths) (a .request .now) (a .reply .now) (runItems directory (a .first) (a .count)) (a .index)
-    (c .before .before .before .before .before .before .if1 .left) (sym (c .before .before .before .before .before .intact .ensures) ∙ not-false _ (c .before .before .before .before .if2 .left)) (c .if3 .taken)
+    let e = c .before .before .before .before in
+    let a = start e .args in
+    foreign-refused (a .tenths) (a .request .now) (a .reply .now) (runItems directory (a .first) (a .count)) (a .index) (right-length e) (whole e) (c .if3 .taken)
 
 error-requires : tie.Need-error-requires
 error-requires c κs = long (c .before .before .before .before .before .before .before .before .before .before .before .args .reply .now) (c .before .before .before .before .before .before .before .if1 .left)
 
 returns-4 : tie.Need-returns-4
 returns-4 c =
-    let a = c .before .before .before .before .before .before .before .before .before .before .before .before .args in
+    let e = c .before .before .before .before .before .before in
+    let a = start e .args in
     c .error .ensures
     ∙ error-given (a .tenths) (a .request .now) (a .reply .now) (runItems directory (a .first) (a .count)) (a .index)
-    (c .before .before .before .before .before .before .before .before .if1 .left) (sym (c .before .before .before .before .before .before .before .intact .ensures) ∙ not-false _ (c .before .before .before .before .before .before .if2 .left)) (c .before .before .if3 .left) (eq-eqb _ _ (c .before .if4 .taken))
+    (right-length e) (whole e) (c .before .before .if3 .left) (eq-eqb _ _ (c .before .if4 .taken))
 
 shared-slice-read-bytes : tie.Need-shared-slice-read-bytes
 shared-slice-read-bytes c = omega (arith, long (c .before .before .before .before .before .before .before .before .before .before .before .before .args .reply .now) (c .before .before .before .before .before .before .before .before .if1 .left))
@@ -84,9 +100,12 @@ add-if5 c = omega (arith, c .before .shared-slice-known7 .given 2)
 
 returns-5 : tie.Need-returns-5
 returns-5 c =
-    let a = c .before .before .before .before .before .before .before .before .before .before .before .before .before .before .args in
+    let n = c .before .before .before in
+    let e = sound n in
+    let a = start e .args in
     misfit-refused (a .tenths) (a .request .now) (a .reply .now) (runItems directory (a .first) (a .count)) (a .index)
-    (c .before .before .before .before .before .before .before .before .before .before .if1 .left) (sym (c .before .before .before .before .before .before .before .before .before .intact .ensures) ∙ not-false _ (c .before .before .before .before .before .before .before .before .if2 .left)) (c .before .before .before .before .if3 .left) (ne-eqb _ _ (c .before .before .before .if4 .left)) (misfit-read (a .request .now) (a .reply .now) _ true (c .before .word-at .ensures) (c .if5 .taken))
+    (right-length e) (whole e) (n .before .if3 .left) (ne-eqb _ _ (n .if4 .left))
+    (misfit-read (a .request .now) (a .reply .now) _ true (c .before .word-at .ensures) (c .if5 .taken))
 
 item-requires : tie.Need-item-requires
 item-requires c κs =
@@ -98,10 +117,13 @@ item-requires c κs =
 
 returns-6 : tie.Need-returns-6
 returns-6 c =
-    let a = c .before .before .before .before .before .before .before .before .before .before .before .before .before .before .before .args in
+    let n = c .before .before .before .before in
+    let e = sound n in
+    let a = start e .args in
     c .item .ensures
     ∙ item-given (a .tenths) (a .request .now) (a .reply .now) (runItems directory (a .first) (a .count)) (a .index)
-    (c .before .before .before .before .before .before .before .before .before .before .before .if1 .left) (sym (c .before .before .before .before .before .before .before .before .before .before .intact .ensures) ∙ not-false _ (c .before .before .before .before .before .before .before .before .before .if2 .left)) (c .before .before .before .before .before .if3 .left) (ne-eqb _ _ (c .before .before .before .before .if4 .left)) (misfit-read (a .request .now) (a .reply .now) _ false (c .before .before .word-at .ensures) (c .before .if5 .left))
+    (right-length e) (whole e) (n .before .if3 .left) (ne-eqb _ _ (n .if4 .left))
+    (misfit-read (a .request .now) (a .reply .now) _ false (c .before .before .word-at .ensures) (c .before .if5 .left))
 
 pub replied-spec : {M : Type 1} → statement M
 replied-spec =

@@ -5,10 +5,12 @@ use native.Mathlib.Nat.{mul-le-mul}
 use native.Mathlib.Omega.{arith}
 use lib.Dec.{leb}
 use Rattle.signed.specs.declared.Signed.{Signed}
+use Rattle.counts.specs.Energies.{topCount}
+use Rattle.directory.proofs.ByKind.{kind-past}
 use Rattle.reading.specs.declared.Answer.the-variants.{Reading}
 use Rattle.reading.specs.declared.Quantity.the-variants.{Power, SignedPower, Factor}
 use Rattle.reading.specs.Readings.{when, times, signedIn}
-use Rattle.reading.proofs.ByKind.{long-kind, long-none, away, unit-most, times-one}
+use Rattle.reading.proofs.ByKind.{long-kind, long-none, unit-most, times-one}
 use borrow.Author.Needs.{needs}
 use Rattle.reading.proofs.long.Statement.{statement}
 use Rattle.reading.proofs.long.Tie as tie
@@ -72,7 +74,7 @@ returns-5 : tie.Need-returns-5
 returns-5 c =
     let s = c .before .before .before in
     c .when .ensures
-    ∙ ap (when (leb (s .args .value) 99999999)) (c .before .energy .ensures)
+    ∙ ap (when (leb (s .args .value) topCount)) (c .before .energy .ensures)
     ∙ sym (long-kind (s .args .t) (s .args .quantity) (s .args .value) 5 (c .before .before .match .keys5))
 
 returns-6 : tie.Need-returns-6
@@ -98,9 +100,7 @@ returns-9 c =
     let s = c .before in
     let q = s .args .quantity in
     let r = c .match .rest in
-    sym
-    (long-none (s .args .t) q (s .args .value)
-    (away q 1 (r .0 .0 .0 .0 .0 .0 .0 .1), (away q 2 (r .0 .0 .0 .0 .0 .0 .1), (away q 3 (r .0 .0 .0 .0 .0 .1), (away q 4 (r .0 .0 .0 .0 .1), (away q 5 (r .0 .0 .0 .1), (away q 6 (r .0 .0 .1), (away q 7 (r .0 .1), (away q 9 (r .1), tt)))))))))
+    sym (long-none (s .args .t) q (s .args .value) (λ from. kind-past q 1 7 from (r .0)) (λ from. kind-past q 9 1 from (tt, r .1)))
 
 pub long-spec : {M : Type 1} → statement M
 long-spec =

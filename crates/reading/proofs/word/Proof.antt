@@ -2,9 +2,10 @@
 use mathlib.Core.Path.{sym, ap, _∙_}
 use lib.Dec.{leb}
 use Rattle.signed.specs.declared.Signed.{Signed}
+use Rattle.directory.proofs.ByKind.{kind-past}
 use Rattle.reading.specs.declared.Quantity.the-variants.{Factor}
 use Rattle.reading.specs.Readings.{when, times}
-use Rattle.reading.proofs.ByKind.{word-kind, word-none, word-upper, away}
+use Rattle.reading.proofs.ByKind.{word-kind, word-none, word-upper}
 use borrow.Author.Needs.{needs}
 use Rattle.reading.proofs.word.Statement.{statement}
 use Rattle.reading.proofs.word.Tie as tie
@@ -87,10 +88,7 @@ returns-11 : tie.Need-returns-11
 returns-11 c =
     let s = c .before .before in
     let q = s .args .quantity in
-    let r = c .match .rest in
-    sym
-    (word-none q (s .args .byte) (s .args .value) (c .before .if1 .left)
-    (away q 8 (r .0 .0 .0 .0 .0 .0 .0 .0 .1), (away q 9 (r .0 .0 .0 .0 .0 .0 .0 .1), (away q 10 (r .0 .0 .0 .0 .0 .0 .1), (away q 11 (r .0 .0 .0 .0 .0 .1), (away q 12 (r .0 .0 .0 .0 .1), (away q 13 (r .0 .0 .0 .1), (away q 14 (r .0 .0 .1), (away q 15 (r .0 .1), (away q 16 (r .1), tt))))))))))
+    sym (word-none q (s .args .byte) (s .args .value) (c .before .if1 .left) (λ from. kind-past q 8 9 from (c .match .rest)))
 
 pub word-spec : {M : Type 1} → statement M
 word-spec =

@@ -1,15 +1,15 @@
+-- The first three are constants; the words of the two setup groups stand behind them, numbered through.
 use mathlib.Core.Path.{refl, sym, _∙_}
 use Prim.Native.Nat.{_≤_, zero-le}
+use Rattle.directory.proofs.ByKind.{number-past}
 use Rattle.registers.specs.Shown.{plainValues}
-use Rattle.registers.proofs.Values.{plain-at, onward}
+use Rattle.registers.proofs.Values.{plain-at}
 use borrow.Author.Needs.{needs}
 use Rattle.registers.proofs.plain.Statement.{statement}
 use Rattle.registers.proofs.plain.Tie as tie
 
 past : (c : tie.At-match-rest) → 3 ≤ c .before .before .before .args .which
-past c =
-    let r = c .match .rest in
-    onward 2 (onward 1 (onward 0 zero-le (r .0 .0 .1)) (r .0 .1)) (r .1)
+past c = number-past (c .before .before .before .args .which) 0 3 zero-le (c .match .rest)
 
 slice-aggregate-word-at : tie.Need-slice-aggregate-word-at
 slice-aggregate-word-at c = search needs

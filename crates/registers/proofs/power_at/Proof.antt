@@ -6,7 +6,7 @@ use lib.ListN.{List·getD-eq-default}
 use Rattle.signed.proofs.Halves.{back}
 use Rattle.meter.proofs.Parts.{meter-parts, held-p, held-q}
 use Rattle.registers.specs.Shown.{powersOf, powerAt}
-use Rattle.registers.proofs.Values.{onward}
+use Rattle.directory.proofs.ByKind.{number-past}
 use borrow.Author.Needs.{needs}
 use Rattle.registers.proofs.power_at.Statement.{statement}
 use Rattle.registers.proofs.power_at.Tie as tie
@@ -87,10 +87,7 @@ returns-9 : tie.Need-returns-9
 unfolding powerAt
 returns-9 c =
     let s = c .before .before .before in
-    let r = c .match .rest in
-    let r3 = onward 2 (onward 1 (onward 0 zero-le (r .0 .0 .0 .0 .0 .0 .0 .1)) (r .0 .0 .0 .0 .0 .0 .1)) (r .0 .0 .0 .0 .0 .1) in
-    let r6 = onward 5 (onward 4 (onward 3 r3 (r .0 .0 .0 .0 .1)) (r .0 .0 .0 .1)) (r .0 .0 .1) in
-    let past = onward 7 (onward 6 r6 (r .0 .1)) (r .1) in
+    let past = number-past (s .args .which) 0 8 zero-le (c .match .rest) in
     sym (List·getD-eq-default (powersOf (s .args .m .latest)) (record { negative = false; magnitude = 0 }) past)
 
 pub power-at-spec : {M : Type 1} → statement M

@@ -1,9 +1,10 @@
 -- By kind: what a kind's function gives is what stands in its list.
 use mathlib.Core.Path.{sym, _∙_}
 use native.Mathlib.Omega.{arith}
+use Rattle.directory.proofs.ByKind.{kind-past}
 use Rattle.meter.specs.Meters.{meterT}
-use Rattle.meter.proofs.Parts.{meter-parts, sample-parts}
-use Rattle.registers.proofs.Values.{shown-kind, shown-none, kind-onward}
+use Rattle.meter.proofs.Parts.{two-at-most, meter-parts, sample-parts}
+use Rattle.registers.proofs.Values.{shown-kind, shown-none}
 use borrow.Author.Needs.{needs}
 use Rattle.registers.proofs.shown.Statement.{statement}
 use Rattle.registers.proofs.shown.Tie as tie
@@ -63,7 +64,7 @@ only-requires-4 c κs = search needs
 cast-only-2 : tie.Need-cast-only-2
 cast-only-2 c =
     let s = c .before .before in
-    record { fits = omega (arith, sample-parts (meterT (s .args .m)) (s .args .m .latest) (meter-parts (s .args .m) (s .pre) .latest) .sequence) }
+    record { fits = omega (arith, two-at-most (s .args .m .latest .sequence) (sample-parts (meterT (s .args .m)) (s .args .m .latest) (meter-parts (s .args .m) (s .pre) .latest) .sequence)) }
 
 only-requires-5 : tie.Need-only-requires-5
 only-requires-5 c κs = search needs
@@ -155,14 +156,7 @@ returns-17 : tie.Need-returns-17
 returns-17 c =
     let s = c .before in
     let q = s .args .quantity in
-    let r = c .match .rest in
-    sym
-    (shown-none (s .args .m) q
-    (λ first.
-    let k4 = kind-onward q 4 (kind-onward q 3 (kind-onward q 2 (kind-onward q 1 first (r .0 .0 .0 .0 .0 .0 .0 .0 .0 .0 .0 .0 .0 .0 .0 .1)) (r .0 .0 .0 .0 .0 .0 .0 .0 .0 .0 .0 .0 .0 .0 .1)) (r .0 .0 .0 .0 .0 .0 .0 .0 .0 .0 .0 .0 .0 .1)) (r .0 .0 .0 .0 .0 .0 .0 .0 .0 .0 .0 .0 .1) in
-    let k8 = kind-onward q 8 (kind-onward q 7 (kind-onward q 6 (kind-onward q 5 k4 (r .0 .0 .0 .0 .0 .0 .0 .0 .0 .0 .0 .1)) (r .0 .0 .0 .0 .0 .0 .0 .0 .0 .0 .1)) (r .0 .0 .0 .0 .0 .0 .0 .0 .0 .1)) (r .0 .0 .0 .0 .0 .0 .0 .0 .1) in
-    let k12 = kind-onward q 12 (kind-onward q 11 (kind-onward q 10 (kind-onward q 9 k8 (r .0 .0 .0 .0 .0 .0 .0 .1)) (r .0 .0 .0 .0 .0 .0 .1)) (r .0 .0 .0 .0 .0 .1)) (r .0 .0 .0 .0 .1) in
-    kind-onward q 16 (kind-onward q 15 (kind-onward q 14 (kind-onward q 13 k12 (r .0 .0 .0 .1)) (r .0 .0 .1)) (r .0 .1)) (r .1)))
+    sym (shown-none (s .args .m) q (λ from. kind-past q 1 16 from (c .match .rest)))
 
 pub shown-spec : {M : Type 1} → statement M
 shown-spec =
