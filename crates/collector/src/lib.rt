@@ -102,7 +102,9 @@ fn replied(
         return error(reply);
     }
     let bytes = reply[2] as usize;
-    if (bytes != 2 * words::word_at(request, modbus::WORD_NUMBER) as usize) | (n != REPLY_LEAST + bytes) {
+    if (bytes != 2 * words::word_at(request, modbus::WORD_NUMBER) as usize)
+        | (n != REPLY_LEAST + bytes)
+    {
         return Answer::Refused(Refusal::ReplyMisfit);
     }
     item(t, reply, tenths, first, count, index)

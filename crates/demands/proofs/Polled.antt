@@ -51,8 +51,7 @@ module _ (address i : ℕ) (l : i < length directory) where
   pub items : readIn directory request ≡ Items i 1
   items =
       let narrow = ruled-narrow directory directory-ruled i l in
-      read-when .items directory request i 1 .1
-      (
+      read-when .items directory request i 1 .1 (
         refl,
         rw number (rw (le-ltb (it .words) 1 (narrow .some), le-ltb 120 (it .words) (omega (arith, narrow .few))) refl),
         rw (start, number) (alone i (it .start) it refl (directory-rules .found i l) (it .words) refl (narrow .some) (narrow .few)),

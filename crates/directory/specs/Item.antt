@@ -6,6 +6,7 @@ use mathlib.Core.List.{List, [], _∷_}
 use lib.Dec.{ltb}
 use Rattle.directory.specs.declared.Item.{Item}
 
+-- address, addresses filled, words sent, quantity
 abbrev pub item : ℕ → ℕ → ℕ → ℕ → Item
 item start fills words quantity = record { start = start; fills = fills; words = words; quantity = quantity }
 

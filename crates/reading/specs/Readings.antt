@@ -54,11 +54,11 @@ longs t which v =
     Reading (Current v) ∷
     Reading (Power (v * unitOf t which)) ∷
     Reading (SignedPower (signedIn 2 v)) ∷
-    -- energy register over 99,999,999; Low over 999,999; High over 65,535,999: not so
+    -- energy register over 99,999,999; Low over 999,999; High over 65,535,999: 13
     when (leb v topCount) (counted t v) ∷
     when (leb v topLow) (Low v) ∷
     when (leb v topHigh) (High v) ∷
-    -- no wrap; factor beyond 1,000 thousandths in magnitude: not so
+    -- no wrap; factor beyond 1,000 thousandths in magnitude: 13
     impossible ∷
     when (leb (signedIn 2 v .magnitude) 1000) (Factor (signedIn 2 v)) ∷
     []
@@ -68,14 +68,14 @@ abbrev pub shorts : ℕ → List Answer
 shorts v =
     -- voltage to High are L
     replicate 8 impossible ++
-    -- wrap; factor beyond 100 hundredths in magnitude: not so, and a factor in hundredths is read times 10
+    -- wrap; factor beyond 100 hundredths in magnitude: 13; a factor in hundredths is read times 10
     (Reading (Wrap v) ∷
     when (leb (signedIn 1 v .magnitude) 100) (Factor (times 10 (signedIn 1 v))) ∷
-    -- sign over 1; sector over 2: not so; frequency
+    -- sign over 1; sector over 2: 13; frequency
     when (leb v 1) (Sign v) ∷
     when (leb v 2) (Sector v) ∷
     Reading (Frequency v) ∷
-    -- KTA or KTV item out of limits; sequence not 1 or 2: not so; plain word
+    -- KTA or KTV item out of limits; sequence not 1 or 2: 13; plain word
     when (ktaOk v) (Kta v) ∷
     when (ktvOk v) (Ktv v) ∷
     when (eqb v 1 || eqb v 2) (Sequence v) ∷

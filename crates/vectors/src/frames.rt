@@ -75,27 +75,15 @@ fn of_004() {
     let mut m = new(1);
     m.active.positive.wh.0 = 257_400;
     m.reactive.positive.wh.0 = 136_520;
-    ask(
-        m,
-        b"004, two energies",
-        b"\x01\x03\x10\x1C\x00\x04\x81\x0F",
-    );
+    ask(m, b"004, two energies", b"\x01\x03\x10\x1C\x00\x04\x81\x0F");
 }
 
 // 001's answer of 0x2000 has 16 words, in spite of the 16 BYTES beside its table. A meter that was sent the words of 0x2200
 // answers 24, with the printed CRC.
 fn of_001() {
     let m = with_setup(new(0xFF));
-    ask(
-        m,
-        b"001, 0x2000",
-        b"\xFF\x03\x20\x00\x00\x10\x5A\x18",
-    );
-    ask(
-        m,
-        b"001, 0x2200",
-        b"\xFF\x03\x22\x00\x00\x18\x5A\x66",
-    );
+    ask(m, b"001, 0x2000", b"\xFF\x03\x20\x00\x00\x10\x5A\x18");
+    ask(m, b"001, 0x2200", b"\xFF\x03\x22\x00\x00\x18\x5A\x66");
 }
 
 // Of the answers of 0x2200 as they are printed, 001's shows 25 words where its byte number says 24, and 000's has the last two

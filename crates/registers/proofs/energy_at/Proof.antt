@@ -1,3 +1,4 @@
+-- Four arms in the list's order; beyond them both sides are 0.
 use mathlib.Core.Path.{sym, ap}
 use Prim.Native.Nat.{_≤_}
 use native.Mathlib.Omega.{arith}

@@ -1,3 +1,4 @@
+-- At most 1,000 thousandths fit both words; past the second of the list both sides are 0.
 use mathlib.Core.Path.{refl, sym}
 use native.Mathlib.Omega.{arith}
 use lib.ListN.{List·getD-eq-default}

@@ -1,3 +1,4 @@
+-- Up to the top High fits its words, so the cast keeps it.
 use mathlib.Core.Path.{sym}
 use native.Mathlib.Omega.{arith}
 use Rattle.counts.proofs.Joins.{counts-fit}

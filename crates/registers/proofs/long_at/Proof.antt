@@ -1,3 +1,4 @@
+-- Inside, the list's own; past its end both sides are 0.
 use mathlib.Core.Path.{sym}
 use lib.ListN.{List·getD-eq-default}
 use borrow.Author.Needs.{needs}

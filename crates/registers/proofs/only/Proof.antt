@@ -1,3 +1,4 @@
+-- The one value, or past it 0 on both sides.
 use mathlib.Core.Path.{sym}
 use mathlib.Core.List.{[], _∷_}
 use native.Mathlib.Omega.{arith}

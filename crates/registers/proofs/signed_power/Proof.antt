@@ -1,3 +1,4 @@
+-- A power within its limit, in whole units, fits a signed L.
 use mathlib.Core.Path.{sym}
 use native.Mathlib.Omega.{arith}
 use Rattle.ratio.proofs.Powers.{powers-fit}

@@ -1,3 +1,4 @@
+-- The second group counts from where the first ends.
 use mathlib.Core.Path.{sym, _∙_}
 use lib.ListN.{List·getD-append, List·getD-eq-default}
 use Rattle.registers.proofs.Values.{second-at}

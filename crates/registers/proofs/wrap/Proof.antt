@@ -1,3 +1,4 @@
+-- Up to the top the wrap fits its word, so the cast keeps it.
 use mathlib.Core.Path.{sym}
 use native.Mathlib.Omega.{arith}
 use Rattle.counts.proofs.Joins.{counts-fit}

@@ -1,3 +1,4 @@
+-- `Sample::none` tells the sample; the rest is written out.
 use mathlib.Core.Path.{refl}
 use borrow.Author.Needs.{needs}
 use Rattle.meter.proofs.Meter.blank.Statement.{statement}

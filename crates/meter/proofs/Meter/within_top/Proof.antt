@@ -1,3 +1,4 @@
+-- Each call tells its part of the definition.
 use mathlib.Core.Path.{refl}
 use borrow.Author.Needs.{needs}
 use Rattle.meter.proofs.Meter.within_top.Statement.{statement}

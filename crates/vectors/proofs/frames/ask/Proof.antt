@@ -52,10 +52,10 @@ text-requires-4 : tie.Need-text-requires-4
 text-requires-4 c κs = search needs
 
 array-share-prefix-buffer : tie.Need-array-share-prefix-buffer
-array-share-prefix-buffer c = omega (arith, sent (c .before .before))
+array-share-prefix-buffer c = omega (arith, sent (c .before .before .before))
 
 slice-aggregate-bytes : tie.Need-slice-aggregate-bytes
-slice-aggregate-bytes c = sym (length-take-le _ _ (omega (arith, sent (c .before .before .before))))
+slice-aggregate-bytes c = sym (length-take-le _ _ (omega (arith, sent (c .before .before .before .before))))
 
 bytes-requires-2 : tie.Need-bytes-requires-2
 bytes-requires-2 c κs = search needs

@@ -1,3 +1,4 @@
+-- What is above and below zero is at most the magnitude, so both sums have room.
 use mathlib.Core.Path.{refl}
 use Rattle.signed.proofs.Sums.{above-le, below-le}
 use borrow.Author.Needs.{needs}

@@ -1,3 +1,4 @@
+-- An i16 widened is the same number.
 use mir.Syntax.{w16, w64}
 use mir.Val.{SFits}
 use mir.Facts.{toZ-ofZ, sfits-widen}
