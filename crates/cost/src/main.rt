@@ -1,7 +1,7 @@
 // Work to count instructions by. docs/COST.md has the figures, each the difference that a thousand more turns make.
 mod bytes;
 mod figures;
-mod polls;
+mod frames;
 mod readings;
 
 use libc::STDIN_FILENO;
@@ -10,7 +10,7 @@ use libc::STDOUT_FILENO;
 fn main() {
     let mut buf = [0u8; 256];
     let n = io::read_full(STDIN_FILENO, &mut buf);
-    io::print_hex(STDOUT_FILENO, polls::answered(&buf[..n]) as u64, 2);
+    io::print_hex(STDOUT_FILENO, frames::answered(&buf[..n]) as u64, 2);
     io::write_all(STDOUT_FILENO, b"\n");
     io::print_hex(STDOUT_FILENO, readings::collected(&buf[..n]), 2);
     io::write_all(STDOUT_FILENO, b"\n");

@@ -3,8 +3,8 @@ use mathlib.Core.Path.{_≡_}
 use Prim.Native.Nat.{_≤_, _-_}
 use lib.ListN.{length}
 use borrow.Author.Needs.{needs}
-use Rattle.cost.proofs.polls.answered.Statement.{statement}
-use Rattle.cost.proofs.polls.answered.Tie as tie
+use Rattle.cost.proofs.frames.answered.Statement.{statement}
+use Rattle.cost.proofs.frames.answered.Tie as tie
 
 abbrev Inv-loop : tie.InvT-loop
 Inv-loop frame meter₀ buffer₀ k₀ meter buffer k = (k ≤ 1000) × (length buffer ≡ 256)
