@@ -14,7 +14,7 @@ impl Count {
     pub const TOP: u32 = 99_999_999;
 
     // The counts of a full turn of the register, from 0 to 0.
-    pub const TURN: u64 = 100_000_000;
+    const TURN: u64 = 100_000_000;
 
     pub fn energy(self, t: u32) -> WattHours
         ensures { λ r. ⌜ r ≡ energyOf t (self .0) ⌝ }
@@ -33,7 +33,7 @@ impl WattHours {
     pub const HIGH_TOP: u32 = 65_535_999;
 
     // The Wh of one High.
-    pub const MEGA: u64 = 1_000_000;
+    const MEGA: u64 = 1_000_000;
 
     fn count(self, t: u32) -> u64
         ensures { λ r. ⌜ r ≡ countOf t self ⌝ }

@@ -89,6 +89,8 @@ pub const BYTE_IDENTIFIER: u16 = 1;
 
 pub const WORD_IDENTIFIER: u16 = 2;
 
-pub const SETUP_2000: u16 = PLAIN + 3;
+pub const FIRST_SETUP: u16 = 3;
 
-pub const SETUP_2200: u16 = PLAIN + 19;
+pub const SETUP_2000: u16 = PLAIN + FIRST_SETUP;
+
+pub const SETUP_2200: u16 = SETUP_2000 + 16;

@@ -37,6 +37,9 @@ impl Ratios {
     }
 }
 
+// The hundredths of a whole W, var or VA.
+pub const WHOLE_UNIT: u64 = 100;
+
 // From this T on, power registers count whole units, and powers may be larger.
 const WHOLE_UNITS_FROM: u32 = 50_000;
 
@@ -44,7 +47,7 @@ const WHOLE_UNITS_FROM: u32 = 50_000;
 pub fn power_unit(t: u32) -> u64
     ensures { λ r. ⌜ r ≡ powerUnit t ⌝ }
 {
-    if t < WHOLE_UNITS_FROM { 1 } else { 100 }
+    if t < WHOLE_UNITS_FROM { 1 } else { WHOLE_UNIT }
 }
 
 // What a P, Q or S register holds of a magnitude in hundredths.

@@ -122,7 +122,7 @@ fn unit(t: u32, which: u16) -> u64
     ensures { λ r. ⌜ r ≡ unitOf t which ⌝ }
 {
     if which == WHOLE_S {
-        100
+        ratio::WHOLE_UNIT
     } else {
         ratio::power_unit(t)
     }

@@ -71,7 +71,7 @@ fn power(m: Meter, which: u16) -> u32
     let t = m.ratios.tenths();
     match which {
         S => ratio::power_register(t, m.latest.s) as u32,
-        WHOLE_S => (m.latest.s / 100) as u32,
+        WHOLE_S => (m.latest.s / ratio::WHOLE_UNIT) as u32,
         _ => {
             let p = power_at(m, which);
             ratio::power_register(t, p.magnitude) as u32
@@ -85,7 +85,7 @@ fn signed_power(m: Meter, which: u16) -> u32
     ensures { λ r. ⌜ r ≡ getD (signedValues m) which 0 ⌝ }
 {
     let p = power_at(m, which);
-    words::twos_long(p.negative, (p.magnitude / 100) as u32)
+    words::twos_long(p.negative, (p.magnitude / ratio::WHOLE_UNIT) as u32)
 }
 
 fn sign(m: Meter, which: u16) -> u32
@@ -195,7 +195,7 @@ fn plain(m: Meter, which: u16) -> u32
         ZEROS => 0,
         BYTE_IDENTIFIER => 0x11,
         WORD_IDENTIFIER => 0x1114,
-        _ => word_at(&standard, &output, which as usize - 3) as u32,
+        _ => word_at(&standard, &output, (which - FIRST_SETUP) as usize) as u32,
     }
 }
 

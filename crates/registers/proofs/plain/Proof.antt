@@ -20,6 +20,9 @@ slice-aggregate-word-at-2 c = search needs
 sub-word-at : tie.Need-sub-word-at
 sub-word-at c = search needs
 
+cast-word-at : tie.Need-cast-word-at
+cast-word-at c = search needs
+
 word-at-requires : tie.Need-word-at-requires
 word-at-requires c κs = search needs
 
@@ -51,6 +54,7 @@ plain-spec =
     slice-aggregate-word-at
     slice-aggregate-word-at-2
     sub-word-at
+    cast-word-at
     word-at-requires
     cast-result
     returns
