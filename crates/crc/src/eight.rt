@@ -8,7 +8,7 @@ ghost use Rattle.crc.specs.Crc.{crcFrom, crcOf};
 ghost use Rattle.crc.specs.AtOnce.{run, folded, spread, narrowed, parity, settled, number};
 
 // The CRC of the whole words of a slice: its remainder is kept in x and its parity in p. 64 shifts of 0x0F14 are 0xFFFF.
-pub fn words(bytes: &[u8]) -> u16
+pub(crate) fn words(bytes: &[u8]) -> u16
     ensures { λ r. ⌜ crcFrom r (drop (length (now (bytes .entry)) / 8 * 8) (now (bytes .entry))) ≡ crcOf (now (bytes .entry)) ⌝ }
 {
     if bytes.len() < 8 {

@@ -84,7 +84,7 @@ pub fn run_in(t: &[u16], n: usize, start: u16, words: u16) -> Span
 }
 
 // The index of the item that starts at an address. The table ascends, so what is left of it is halved at each look.
-pub fn find_in(t: &[u16], n: usize, address: u16) -> Found
+fn find_in(t: &[u16], n: usize, address: u16) -> Found
     requires { ⌜ (4 * n ≤ length (now t)) × T (ruled (items (now t))) ⌝ }
     ensures { λ r. ⌜ r ≡ findIn (take n (items (now (t .entry)))) address 0 ⌝ }
 {
