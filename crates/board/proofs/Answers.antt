@@ -141,16 +141,16 @@ obeys =
 
 -- ---- what stays as it was
 
-module _ (m : Meter) (frame : List ℕ) where
+module _ (m : Meter) (frame b : List ℕ) where
   abbrev Kept : Meter → Type 0
-  Kept n = (n ≡ m) ⊎ (Stores m frame × (n ≡ storedOf m frame))
+  Kept n = (n ≡ m) ⊎ (Heeds m frame b × Stores m frame × (n ≡ storedOf m frame))
 
-  gives-kept : (bytes : List ℕ) (n : Meter) → Gives m frame bytes n → Kept n
-  gives-kept bytes n (other r w e k) = inl k
-  gives-kept bytes n (misread code r s e k) = inl k
-  gives-kept bytes n (shows first count r s e k) = inl k
-  gives-kept bytes n (miswritten code w v e k) = inl k
-  gives-kept bytes n (stores w v e k) = inr ((w, v), k)
+  gives-kept : (bytes : List ℕ) (n : Meter) → Heeds m frame b → Gives m frame bytes n → Kept n
+  gives-kept bytes n h (other r w e k) = inl k
+  gives-kept bytes n h (misread code r s e k) = inl k
+  gives-kept bytes n h (shows first count r s e k) = inl k
+  gives-kept bytes n h (miswritten code w v e k) = inl k
+  gives-kept bytes n h (stores w v e k) = inr (h, (w, v), k)
 
 module _ (m : Meter) (frame b : List ℕ) where
   refused : View m frame b → (reason : Refusal) → said (boardOf m frame b) ≡ Refused reason → (boardOf m frame b .handled .meter ≡ m) × (boardOf m frame b .buffer ≡ b)
@@ -159,6 +159,13 @@ module _ (m : Meter) (frame b : List ℕ) where
   refused (unheard h k q e) reason r = apart (λ z. omega arith) (heard-as e r)
   refused (for-all bytes n h z g e) reason r = apart (λ z. omega arith) (heard-as e r)
   refused (for-one bytes n a g e) reason r = apart (λ z. omega arith) (heard-as e r)
+
+  unheeded : View m frame b → silence (m .address) frame ≡ true → (boardOf m frame b .handled .meter ≡ m) × (boardOf m frame b .buffer ≡ b)
+  unheeded (out h e) q = (ap (λ (o : Outcome). o .handled .meter) e, ap (λ (o : Outcome). o .buffer) e)
+  unheeded (short h k e) q = (ap (λ (o : Outcome). o .handled .meter) e, ap (λ (o : Outcome). o .buffer) e)
+  unheeded (unheard h k s e) q = (ap (λ (o : Outcome). o .handled .meter) e, ap (λ (o : Outcome). o .buffer) e)
+  unheeded (for-all bytes n h z g e) q = absurd (false≢true (sym (h .heard) ∙ q))
+  unheeded (for-one bytes n a g e) q = absurd (false≢true (sym (a .heeds .heard) ∙ q))
 
   silent : View m frame b → said (boardOf m frame b) ≡ Silent → boardOf m frame b .buffer ≡ b
   silent (out h e) r = apart (λ z. omega arith) (heard-as e r)
@@ -194,17 +201,18 @@ module _ (m : Meter) (frame b : List ℕ) where
     beyond : drop k (boardOf m frame b .buffer) ≡ drop k b
     beyond = rw (s .after, ← s .long) (sent-beyond (s .bytes) b within-buffer)
 
-  altered : View m frame b → Kept m frame (boardOf m frame b .handled .meter)
+  altered : View m frame b → Kept m frame b (boardOf m frame b .handled .meter)
   altered (out h e) = inl (ap (λ (o : Outcome). o .handled .meter) e)
   altered (short h k e) = inl (ap (λ (o : Outcome). o .handled .meter) e)
   altered (unheard h k q e) = inl (ap (λ (o : Outcome). o .handled .meter) e)
-  altered (for-all bytes n h z g e) = rw e (gives-kept m frame bytes n g)
-  altered (for-one bytes n a g e) = rw e (gives-kept m frame bytes n g)
+  altered (for-all bytes n h z g e) = rw e (gives-kept m frame b bytes n h g)
+  altered (for-one bytes n a g e) = rw e (gives-kept m frame b bytes n (a .heeds) g)
 
 pub untouched : Untouched
 untouched =
     record {
       refused = λ m frame b. refused m frame b (view m frame b);
+      unheard = λ m frame b. unheeded m frame b (view m frame b);
       silent = λ m frame b. silent m frame b (view m frame b);
       beyond = λ m frame b n h. beyond m frame b n (sent m frame b (view m frame b) n h);
       altered = λ m frame b. altered m frame b (view m frame b);
@@ -224,12 +232,12 @@ reply-long m frame b is e = replies-sealed .long m frame b _ (ap (λ (x : Handle
 
 -- ---- within limits
 
-kept-within : (m : Meter) (frame : List ℕ) (n : Meter) → meterOk m ≡ true → Kept m frame n → meterOk n ≡ true
-kept-within m frame n h (inl e) = ap meterOk e ∙ h
-kept-within m frame n h (inr s) = ap meterOk (s .1 ∙ sym (write-when .stored m frame (s .0 .1))) ∙ write-within .write m frame h
+kept-within : (m : Meter) (frame b : List ℕ) (n : Meter) → meterOk m ≡ true → Kept m frame b n → meterOk n ≡ true
+kept-within m frame b n h (inl e) = ap meterOk e ∙ h
+kept-within m frame b n h (inr s) = ap meterOk (s .2 ∙ sym (write-when .stored m frame (s .1 .1))) ∙ write-within .write m frame h
 
 pub frame-within : FrameWithin
-frame-within = record { frame = λ m frame b h. kept-within m frame _ h (untouched .altered m frame b) }
+frame-within = record { frame = λ m frame b h. kept-within m frame b _ h (untouched .altered m frame b) }
 
 -- ---- the buffer is not seen
 

@@ -67,13 +67,14 @@ pub record Obeys : Type 0 where
   pub writes : (m : Meter) (frame b : List ℕ) → Answers m frame b → Stores m frame → boardOf m frame b ≡ sentOf (echoReply frame) (storedOf m frame) b
   pub for-all : (m : Meter) (frame b : List ℕ) → Heeds m frame b → addressOf frame ≡ 0 → Stores m frame → boardOf m frame b ≡ silentOf (storedOf m frame) b
 
--- STATEMENT: a refusal changes nothing; silence leaves the buffer; bytes beyond a reply stay; only a legal write alters the
--- record, and stores its group alone; address 0 never has a reply
+-- STATEMENT: a refusal changes nothing, nor does a frame that is damaged or foreign; silence leaves the buffer; bytes beyond a reply stay; only a
+-- legal write that the meter heeds alters the record, and stores its group alone; address 0 never has a reply
 pub record Untouched : Type 0 where
   pub refused : (m : Meter) (frame b : List ℕ) (reason : Refusal) → boardOf m frame b .handled .reply ≡ Refused reason → (boardOf m frame b .handled .meter ≡ m) × (boardOf m frame b .buffer ≡ b)
+  pub unheard : (m : Meter) (frame b : List ℕ) → silence (m .address) frame ≡ true → (boardOf m frame b .handled .meter ≡ m) × (boardOf m frame b .buffer ≡ b)
   pub silent : (m : Meter) (frame b : List ℕ) → boardOf m frame b .handled .reply ≡ Silent → boardOf m frame b .buffer ≡ b
   pub beyond : (m : Meter) (frame b : List ℕ) (n : ℕ) → boardOf m frame b .handled .reply ≡ Sent n → drop n (boardOf m frame b .buffer) ≡ drop n b
-  pub altered : (m : Meter) (frame b : List ℕ) → (boardOf m frame b .handled .meter ≡ m) ⊎ (Stores m frame × (boardOf m frame b .handled .meter ≡ storedOf m frame))
+  pub altered : (m : Meter) (frame b : List ℕ) → (boardOf m frame b .handled .meter ≡ m) ⊎ (Heeds m frame b × Stores m frame × (boardOf m frame b .handled .meter ≡ storedOf m frame))
   pub for-all : (m : Meter) (frame b : List ℕ) (n : ℕ) → addressOf frame ≡ 0 → boardOf m frame b .handled .reply ≡ Sent n → ⊥
 
 -- STATEMENT: frames keep a record within limits

@@ -40,6 +40,11 @@ abbrev reasonIn : Joined → Refusal
 reasonIn (Energy e) = RatioOutOfLimits
 reasonIn (Refused reason) = reason
 
+only : (ok small : Bool) (e : WattHours) (reason : Refusal) → joins ok small (Energy e) ≡ Refused reason → (reason ≡ RatioOutOfLimits) ⊎ (reason ≡ JoinPastTop)
+only true true e reason h = absurd (let z : _≡_ {A = ℕ} 0 1 = cc in omega (arith, z))
+only true false e reason h = inr (sym (ap reasonIn h))
+only false small e reason h = inl (sym (ap reasonIn h))
+
 -- the tests: Low at most its top, High at most its top
 halves : (low high : Bool) (e : WattHours) (reason : Refusal) → (cond (low && high) (Energy e) (Refused JoinPastTop) ≡ Refused reason) ↔ ((reason ≡ JoinPastTop) × ((low ≡ false) ⊎ (high ≡ false)))
 halves true true e reason = (λ h. absurd (let z : _≡_ {A = ℕ} 0 1 = cc in omega (arith, z)), λ h. absurd (neither-false (h .1)))
@@ -67,5 +72,6 @@ unfolding joinOf joinHalvesOf
 joins-when = record {
   three = λ r c wrap. three (ratiosOk r) (leb (c .0) topCount) _ refl;
   fourteen = λ r c wrap. (λ h. let t = fourteen (ratiosOk r) (leb (c .0) topCount) _ refl .0 h in (t .0, leb-false (c .0) topCount (t .1)), λ h. fourteen (ratiosOk r) (leb (c .0) topCount) _ refl .1 (h .0, lt-leb (c .0) topCount (h .1)));
+  only = λ r c wrap. only (ratiosOk r) (leb (c .0) topCount) _;
   halves = λ low high reason. (λ h. let t = halves (leb low topLow) (leb high topHigh) _ reason .0 h in (t .0, over low high .0 (t .1)), λ h. halves (leb low topLow) (leb high topHigh) _ reason .1 (h .0, over low high .1 (h .1)));
 }

@@ -132,4 +132,5 @@ pub record NotMisread : Type 0 where
 pub record JoinsWhen : Type 0 where
   pub three : (r : Ratios) (c : Count) (wrap : ℕ) → (joinOf r c wrap ≡ joined.Refused RatioOutOfLimits) ↔ (ratiosOk r ≡ false)
   pub fourteen : (r : Ratios) (c : Count) (wrap : ℕ) → (joinOf r c wrap ≡ joined.Refused JoinPastTop) ↔ ((ratiosOk r ≡ true) × (topCount < c .0))
+  pub only : (r : Ratios) (c : Count) (wrap : ℕ) (reason : Refusal) → joinOf r c wrap ≡ joined.Refused reason → (reason ≡ RatioOutOfLimits) ⊎ (reason ≡ JoinPastTop)
   pub halves : (low high : ℕ) (reason : Refusal) → (joinHalvesOf low high ≡ joined.Refused reason) ↔ ((reason ≡ JoinPastTop) × ((topLow < low) ⊎ (topHigh < high)))

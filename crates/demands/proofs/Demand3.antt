@@ -170,4 +170,5 @@ demand-3 = record {
   wrap-first = λ h e four r w. register-read h e four (later h) (sooner h) (last h e four) (then h e four) r w;
   low-first = λ h e four l u. halves-read h e four (sooner h) (later h) (then h e four) (last h e four) l u;
   high-first = λ h e four l u. halves-read h e four (later h) (sooner h) (last h e four) (then h e four) l u;
+  still = λ h e. idle-adds e (sooner h) (h .between) (h .idle);
 }

@@ -7,15 +7,18 @@ use lib.ListN.{getD}
 use Rattle.refusal.proofs.Distinct.{one-reason-each}
 use Rattle.counts.specs.declared.Joined.{Joined}
 use Rattle.counts.specs.declared.Joined.the-variants as joined
+use Rattle.modbus.specs.declared.Verdict.{Verdict}
+use Rattle.modbus.specs.declared.Verdict.the-variants as verdict
 use Rattle.reading.proofs.Told.{one-answer-each}
 use Rattle.meter.specs.declared.Answer as meter
 use Rattle.meter.specs.declared.Answer.the-variants as taken
 use Rattle.meter.specs.declared.Answered.{Answered}
+use Rattle.store.specs.declared.Written.{Written}
 use Rattle.board.specs.declared.Reply.{Reply}
 use Rattle.board.specs.declared.Reply.the-variants as board
 use Rattle.board.specs.declared.Handled.{Handled}
 use Rattle.board.specs.Board.{Outcome}
-use Rattle.demands.specs.Determined.{answerTold, replyTold, joinTold, AnswerAllowed, ReplyAllowed, Determined, Once}
+use Rattle.demands.specs.Determined.{answerTold, replyTold, joinTold, verdictTold, AnswerAllowed, VerdictAllowed, ReplyAllowed, Determined, Once}
 
 -- the case of an answer, and the number behind it
 abbrev caseIn : List ℕ → ℕ
@@ -47,11 +50,23 @@ join-back (joined.Energy x) (joined.Refused r) e = absurd (omega (arith, ap case
 join-back (joined.Refused r) (joined.Energy x) e = absurd (omega (arith, ap caseIn e))
 join-back (joined.Refused r) (joined.Refused s) e = ap joined.Refused (one-reason-each .refusals r s (ap numberIn e))
 
+verdict-back : (a b : Verdict) → verdictTold a ≡ verdictTold b → a ≡ b
+verdict-back verdict.Good verdict.Good e = refl
+verdict-back verdict.Good (verdict.Wrong c) e = absurd (omega (arith, ap caseIn e))
+verdict-back (verdict.Wrong c) verdict.Good e = absurd (omega (arith, ap caseIn e))
+verdict-back (verdict.Wrong c) (verdict.Wrong d) e = ap verdict.Wrong (one-reason-each .errors c d (ap numberIn e))
+
 answered-once : (d x y : Answered) → AnswerAllowed d x → AnswerAllowed d y → x ≡ y
 answered-once d x y a b =
     let answer = answer-back (x .answer) (y .answer) (a .answer ∙ sym (b .answer)) in
     let meter = a .record-after ∙ sym (b .record-after) in
     λ i. record { answer = answer i; meter = meter i }
+
+written-once : (d x y : Written) → VerdictAllowed d x → VerdictAllowed d y → x ≡ y
+written-once d x y a b =
+    let judged = verdict-back (x .verdict) (y .verdict) (a .answer ∙ sym (b .answer)) in
+    let meter = a .record-after ∙ sym (b .record-after) in
+    λ i. record { verdict = judged i; meter = meter i }
 
 handled-once : (d : Outcome) (x y : Handled) (p q : List ℕ) → ReplyAllowed d x p → ReplyAllowed d y q → (x ≡ y) × (p ≡ q)
 handled-once d x y p q a b =
@@ -63,6 +78,7 @@ pub determined : Determined
 determined = record {
   new = λ address r x y a b. answered-once _ x y a b;
   sample = λ m s x y a b. answered-once _ x y a b;
+  write = λ m frame x y a b. written-once _ x y a b;
   frame = λ m frame b x y p q h k. handled-once _ x y p q h k;
   reply = λ request reply r index x y a b. one-answer-each .answers x y (a ∙ sym b);
   counts = λ r count wrap x y a b. join-back x y (a ∙ sym b);

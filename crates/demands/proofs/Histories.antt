@@ -18,7 +18,7 @@ use Rattle.meter.proofs.Sums.{energy-is-sum}
 use Rattle.meter.proofs.Answers.{stays-within}
 use Rattle.store.specs.Writes.{toStandard, storedOf}
 use Rattle.board.specs.Board.{boardOf}
-use Rattle.board.specs.Answers.{Stores}
+use Rattle.board.specs.Answers.{Heeds, Stores}
 use Rattle.board.proofs.Answers.{untouched, frame-within}
 use Rattle.demands.specs.Histories.{Event, afterEvent, eventAdds, isTaken, afterAll, exactOf, anyTaken, AfterEvents}
 
@@ -33,12 +33,12 @@ module _ {A : Type 0} (see : Meter → A) (blind : (m : Meter) (standard output 
       by true = blind m (valuesOf frame) (m .output)
       by false = blind m (m .standard) (valuesOf frame)
 
-  altered-unseen : (m : Meter) (frame : List ℕ) (n : Meter) → (n ≡ m) ⊎ (Stores m frame × (n ≡ storedOf m frame)) → see n ≡ see m
-  altered-unseen m frame n (inl e) = ap see e
-  altered-unseen m frame n (inr s) = ap see (s .1) ∙ stored-unseen m frame
+  altered-unseen : (m : Meter) (frame b : List ℕ) (n : Meter) → (n ≡ m) ⊎ (Heeds m frame b × Stores m frame × (n ≡ storedOf m frame)) → see n ≡ see m
+  altered-unseen m frame b n (inl e) = ap see e
+  altered-unseen m frame b n (inr s) = ap see (s .2) ∙ stored-unseen m frame
 
   frame-unseen : (m : Meter) (frame b : List ℕ) → see (boardOf m frame b .handled .meter) ≡ see m
-  frame-unseen m frame b = altered-unseen m frame _ (untouched .altered m frame b)
+  frame-unseen m frame b = altered-unseen m frame b _ (untouched .altered m frame b)
 
 -- what is the same of the next meter is the same after a sample
 module _ {A : Type 0} (see : Meter → A) (blind : (m : Meter) (s : Sample) → see (nextOf m s) ≡ see m) where

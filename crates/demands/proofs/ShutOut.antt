@@ -1,23 +1,31 @@
 -- After one sample of ten Wh the exact energy is a step higher, after two it is two higher, and no figure is within less than a step of both; the step is
 -- positive, so the bounds fix the count.
 use mathlib.Core.Path.{_≡_, refl, sym, ap, _∙_}
+use mathlib.Core.Bool.{true, _&&_}
 use mathlib.Core.List.{List, [], _∷_}
 use Prim.Native.Nat.{ℕ, _+_, _*_, _/_, _≤_, _<_}
-use native.Mathlib.Nat.{div-eq-of-lt-le}
+use native.Mathlib.Nat.{le-trans, div-eq-of-lt-le}
 use native.Mathlib.Omega.{arith}
+use borrow.Author.Tests.{le-leb}
+use Rattle.signed.specs.Signs.{aboveOf, belowOf}
+use Rattle.signed.proofs.Sums.{above-le, below-le}
 use Rattle.ratio.specs.declared.Ratios.{Ratios}
-use Rattle.ratio.specs.Powers.{powerLimit}
+use Rattle.ratio.specs.Ratios.{tOf}
+use Rattle.ratio.specs.Powers.{topPower, powerLimit}
+use Rattle.ratio.proofs.Powers.{power-laws}
 use Rattle.ratio.specs.Steps.{stepOf}
-use Rattle.counts.specs.Energies.{topCount, registerOf, wrapOf, energyOf}
+use Rattle.counts.specs.Energies.{topWh, topCount, registerOf, wrapOf, energyOf}
 use Rattle.setup.specs.Ranges.{wordOk, groupOk}
 use Rattle.directory.specs.Quantity.{posEa}
 use Rattle.meter.specs.declared.Answer.the-variants.{Accepted}
+use Rattle.meter.specs.declared.samples.Powers.{Powers}
 use Rattle.meter.specs.declared.samples.Sample.{Sample}
 use Rattle.meter.specs.declared.Meter.{Meter}
-use Rattle.meter.specs.Samples.{sampleOk, noSample}
-use Rattle.meter.specs.Meters.{meterT, meterOk, newOf}
+use Rattle.meter.specs.Samples.{threeOf, powersOk, sampleOk}
+use Rattle.meter.specs.Energies.{withPower, withinTop}
+use Rattle.meter.specs.Meters.{meterT, meterOk, blankOf, newOf}
 use Rattle.meter.specs.After.{nextOf, meterWithinTop, afterOf}
-use Rattle.meter.proofs.Parts.{meter-parts}
+use Rattle.meter.proofs.Parts.{powers-sum, sample-parts}
 use Rattle.meter.proofs.Answers.{new-answers, new-blank, sample-answers}
 use Rattle.demands.specs.Histories.{Event, exactOf}
 use Rattle.demands.specs.Demand3.{Bounds}
@@ -62,13 +70,24 @@ made-up t exact count wrap top bounds =
     let same : exact / 360000 / stepOf t ≡ n = div-eq-of-lt-le (stepOf t) low high in
     (omega (arith, same, top), omega (arith, same, top))
 
-takes : (address : ℕ) (r : Ratios) → newOf address r .answer ≡ Accepted → afterOf (newOf address r .meter) noSample .answer ≡ Accepted
-takes address r made =
-    let m = newOf address r .meter in
-    let ok = new-answers .accepted address r .0 made in
-    let latest : m .latest ≡ noSample = ap (λ (x : Meter). x .latest) (new-blank address r) in
-    sample-answers .accepted m noSample .1
-    (ok, ap (sampleOk (meterT m)) (sym latest) ∙ meter-parts m ok .latest, ap (λ (x : Meter). meterWithinTop (nextOf x noSample)) (new-blank address r))
+-- one second of a power within its limit is far below the top
+first-within : (address : ℕ) (r : Ratios) (p : Powers) → powersOk (tOf r) p ≡ true → withinTop (withPower (blankOf address r .active) (threeOf p)) ≡ true
+first-within address r p h =
+    let most = le-trans (powers-sum (tOf r) p h) (power-laws .limit (tOf r)) in
+    let above = above-le (threeOf p) most in
+    let below = below-le (threeOf p) most in
+    λ i. le-leb _ topWh (fits (aboveOf (threeOf p)) above) i && le-leb _ topWh (fits (belowOf (threeOf p)) below) i
+  where
+    fits : (x : ℕ) → x ≤ topPower → 0 + (0 + x) / 360000 ≤ topWh
+    fits x h = omega (arith, h)
+
+takes : (address : ℕ) (r : Ratios) (s : Sample) → newOf address r .answer ≡ Accepted → sampleOk (tOf r) s ≡ true → afterOf (newOf address r .meter) s .answer ≡ Accepted
+takes address r s made h =
+    let blank = new-blank address r in
+    let parts = sample-parts (tOf r) s h in
+    let top : meterWithinTop (nextOf (blankOf address r) s) ≡ true = λ i. first-within address r (s .p) (parts .p) i && first-within address r (s .q) (parts .q) i in
+    sample-answers .accepted (newOf address r .meter) s .1
+    (new-answers .accepted address r .0 made, ap (λ (m : Meter). sampleOk (meterT m) s) blank ∙ h, ap (λ (m : Meter). meterWithinTop (nextOf m s)) blank ∙ top)
 
 pub shut-out : ShutOut
 shut-out = record { takes = takes; same-each-time = same-each-time; ignores-samples = ignores-samples; first-only = first-only; made-up = made-up }

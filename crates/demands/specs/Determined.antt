@@ -4,13 +4,15 @@ use mathlib.Core.Path.{_≡_}
 use Prim.Native.Nat.{ℕ}
 use mathlib.Core.Bool.{Bool}
 use mathlib.Core.List.{List, [], _∷_}
-use Rattle.refusal.specs.Numbers.{refusalNumber}
+use Rattle.refusal.specs.Numbers.{refusalNumber, errorNumber}
 use Rattle.crc.specs.Crc.{Put}
 use Rattle.ratio.specs.declared.Ratios.{Ratios}
 use Rattle.counts.specs.declared.Count.{Count}
 use Rattle.counts.specs.declared.Joined.{Joined}
 use Rattle.counts.specs.declared.Joined.the-variants as joined
 use Rattle.counts.specs.Energies.{joinOf, joinHalvesOf}
+use Rattle.modbus.specs.declared.Verdict.{Verdict}
+use Rattle.modbus.specs.declared.Verdict.the-variants as verdict
 use Rattle.reading.specs.declared.Answer.{Answer}
 use Rattle.reading.specs.Cases.{told}
 use Rattle.collector.specs.Collector.{collectorOf}
@@ -21,6 +23,8 @@ use Rattle.meter.specs.declared.Meter.{Meter}
 use Rattle.meter.specs.declared.Answered.{Answered}
 use Rattle.meter.specs.Meters.{newOf}
 use Rattle.meter.specs.After.{afterOf}
+use Rattle.store.specs.declared.Written.{Written}
+use Rattle.store.specs.Writes.{writtenOf}
 use Rattle.board.specs.declared.Reply.{Reply}
 use Rattle.board.specs.declared.Reply.the-variants as board
 use Rattle.board.specs.declared.Handled.{Handled}
@@ -42,12 +46,22 @@ abbrev pub joinTold : Joined → List ℕ
 joinTold (joined.Energy wh) = 0 ∷ wh .0 ∷ []
 joinTold (joined.Refused reason) = 1 ∷ refusalNumber reason ∷ []
 
--- what the contract of a call on a meter allows, beside what is defined: the answer and the record
+-- a write's verdict in numbers: 0; 1 and the error code
+abbrev pub verdictTold : Verdict → List ℕ
+verdictTold verdict.Good = 0 ∷ []
+verdictTold (verdict.Wrong code) = 1 ∷ errorNumber code ∷ []
+
+-- the contract of a call on a meter is `x ≡ defined`; by the paper's numbers: the answer and the record
 pub record AnswerAllowed (defined x : Answered) : Type 0 where
   pub answer : answerTold (x .answer) ≡ answerTold (defined .answer)
   pub record-after : x .meter ≡ defined .meter
 
--- what the contract of `board::handle` allows: the answer, the record and every byte of the buffer
+-- what a write comes to, by the paper's numbers: the verdict and the record
+pub record VerdictAllowed (defined x : Written) : Type 0 where
+  pub answer : verdictTold (x .verdict) ≡ verdictTold (defined .verdict)
+  pub record-after : x .meter ≡ defined .meter
+
+-- what a frame comes to, by the paper's numbers: the answer, the record and every byte of the buffer
 pub record ReplyAllowed (defined : Outcome) (x : Handled) (buffer : List ℕ) : Type 0 where
   pub answer : replyTold (x .reply) ≡ replyTold (defined .handled .reply)
   pub record-after : x .meter ≡ defined .handled .meter
@@ -57,12 +71,13 @@ pub record ReplyAllowed (defined : Outcome) (x : Handled) (buffer : List ℕ) : 
 pub record Determined : Type 0 where
   pub new : (address : ℕ) (r : Ratios) (x y : Answered) → AnswerAllowed (newOf address r) x → AnswerAllowed (newOf address r) y → x ≡ y
   pub sample : (m : Meter) (s : Sample) (x y : Answered) → AnswerAllowed (afterOf m s) x → AnswerAllowed (afterOf m s) y → x ≡ y
+  pub write : (m : Meter) (frame : List ℕ) (x y : Written) → VerdictAllowed (writtenOf m frame) x → VerdictAllowed (writtenOf m frame) y → x ≡ y
   pub frame : (m : Meter) (frame b : List ℕ) (x y : Handled) (p q : List ℕ) → ReplyAllowed (boardOf m frame b) x p → ReplyAllowed (boardOf m frame b) y q → (x ≡ y) × (p ≡ q)
   pub reply : (request reply : List ℕ) (r : Ratios) (index : ℕ) (x y : Answer) → told x ≡ told (collectorOf request reply r index) → told y ≡ told (collectorOf request reply r index) → x ≡ y
   pub counts : (r : Ratios) (count : Count) (wrap : ℕ) (x y : Joined) → joinTold x ≡ joinTold (joinOf r count wrap) → joinTold y ≡ joinTold (joinOf r count wrap) → x ≡ y
   pub halves : (low high : ℕ) (x y : Joined) → joinTold x ≡ joinTold (joinHalvesOf low high) → joinTold y ≡ joinTold (joinHalvesOf low high) → x ≡ y
   pub put : (before : List ℕ) (n : ℕ) (x y : Bool) (p q : List ℕ) → Put before n x p → Put before n y q → (x ≡ y) × (p ≡ q)
 
--- STATEMENT: and of every other call, whose contract is that the outcome equals what is defined
+-- STATEMENT: a law of equality, which serves every other call: its contract is an equation of the outcome, answer and buffer each, and what is defined
 pub record Once : Type 1 where
   pub same : (A : Type 0) (defined x y : A) → x ≡ defined → y ≡ defined → x ≡ y
