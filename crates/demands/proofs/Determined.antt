@@ -3,13 +3,12 @@ use mathlib.Core.Path.{_≡_, refl, sym, ap, _∙_}
 use mathlib.Core.List.{List}
 use Prim.Native.Nat.{ℕ}
 use native.Mathlib.Omega.{arith}
-use lib.ListN.{getD}
 use Rattle.refusal.proofs.Distinct.{one-reason-each}
 use Rattle.counts.specs.declared.Joined.{Joined}
 use Rattle.counts.specs.declared.Joined.the-variants as joined
 use Rattle.modbus.specs.declared.Verdict.{Verdict}
 use Rattle.modbus.specs.declared.Verdict.the-variants as verdict
-use Rattle.reading.proofs.Told.{one-answer-each}
+use Rattle.reading.proofs.Told.{caseIn, numberIn, one-answer-each}
 use Rattle.meter.specs.declared.Answer as meter
 use Rattle.meter.specs.declared.Answer.the-variants as taken
 use Rattle.meter.specs.declared.Answered.{Answered}
@@ -19,13 +18,6 @@ use Rattle.board.specs.declared.Reply.the-variants as board
 use Rattle.board.specs.declared.Handled.{Handled}
 use Rattle.board.specs.Board.{Outcome}
 use Rattle.demands.specs.Determined.{answerTold, replyTold, joinTold, verdictTold, AnswerAllowed, VerdictAllowed, ReplyAllowed, Determined, Once}
-
--- the case of an answer, and the number behind it
-abbrev caseIn : List ℕ → ℕ
-caseIn l = getD l 0 0
-
-abbrev numberIn : List ℕ → ℕ
-numberIn l = getD l 1 0
 
 answer-back : (a b : meter.Answer) → answerTold a ≡ answerTold b → a ≡ b
 answer-back taken.Accepted taken.Accepted e = refl

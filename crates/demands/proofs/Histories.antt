@@ -1,11 +1,12 @@
 -- A frame alters setup words alone and a sample adds what it carries, so an energy is what it was plus the sum: event by event.
-use mathlib.Core.Path.{_≡_, refl, sym, ap, _∙_}
+use mathlib.Core.Path.{_≡_, refl, ap, _∙_}
 use mathlib.Core.Logic.{_⊎_, inl, inr}
-use mathlib.Core.Bool.{Bool, true, false, _||_, cond, false≢true}
+use mathlib.Core.Bool.{Bool, true, false, cond}
 use mathlib.Core.List.{List, [], _∷_}
 use Prim.Native.Nat.{ℕ, _+_}
 use native.Mathlib.Omega.{arith}
 use Rattle.modbus.specs.Frame.{valuesOf}
+use Rattle.modbus.proofs.Frames.{neither}
 use Rattle.meter.specs.declared.samples.Sample.{Sample}
 use Rattle.meter.specs.declared.Meter.{Meter}
 use Rattle.meter.specs.Samples.{sampleOk}
@@ -52,14 +53,6 @@ module _ {A : Type 0} (see : Meter → A) (blind : (m : Meter) (s : Sample) → 
   unfolding afterOf
   sample-unseen m s = chosen-unseen (meterOk m) (sampleOk (meterT m) s) (meterWithinTop (nextOf m s)) m (nextOf m s) (blind m s)
 
-event-address : (m : Meter) (x : Event) → afterEvent m x .address ≡ m .address
-event-address m (Event.sample s) = sample-unseen (λ m. m .address) (λ m s. refl) m s
-event-address m (Event.frame bytes b) = frame-unseen (λ m. m .address) (λ m s o. refl) m bytes b
-
-event-ratios : (m : Meter) (x : Event) → afterEvent m x .ratios ≡ m .ratios
-event-ratios m (Event.sample s) = sample-unseen (λ m. m .ratios) (λ m s. refl) m s
-event-ratios m (Event.frame bytes b) = frame-unseen (λ m. m .ratios) (λ m s o. refl) m bytes b
-
 event-within : (m : Meter) (x : Event) → meterOk m ≡ true → meterOk (afterEvent m x) ≡ true
 event-within m (Event.sample s) h = stays-within .sample m s h
 event-within m (Event.frame bytes b) h = frame-within .frame m bytes b h
@@ -75,15 +68,16 @@ unfolding afterAll
 within m [] h = h
 within m (x ∷ xs) h = within (afterEvent m x) xs (event-within m x h)
 
-address : (m : Meter) (xs : List Event) → afterAll m xs .address ≡ m .address
-unfolding afterAll
-address m [] = refl
-address m (x ∷ xs) = address (afterEvent m x) xs ∙ event-address m x
+-- what neither sees is the same after any
+module _ {A : Type 0} (see : Meter → A) (frames : (m : Meter) (standard output : List ℕ) → see (withSetup m standard output) ≡ see m) (samples : (m : Meter) (s : Sample) → see (nextOf m s) ≡ see m) where
+  event-unseen : (m : Meter) (x : Event) → see (afterEvent m x) ≡ see m
+  event-unseen m (Event.sample s) = sample-unseen see samples m s
+  event-unseen m (Event.frame bytes b) = frame-unseen see frames m bytes b
 
-ratios : (m : Meter) (xs : List Event) → afterAll m xs .ratios ≡ m .ratios
-unfolding afterAll
-ratios m [] = refl
-ratios m (x ∷ xs) = ratios (afterEvent m x) xs ∙ event-ratios m x
+  all-unseen : (m : Meter) (xs : List Event) → see (afterAll m xs) ≡ see m
+  unfolding afterAll
+  all-unseen m [] = refl
+  all-unseen m (x ∷ xs) = all-unseen (afterEvent m x) xs ∙ event-unseen m x
 
 grows : (e : ℕ) (m : Meter) (xs : List Event) → valueOf (energyAt e (afterAll m xs)) ≡ valueOf (energyAt e m) + exactOf e m xs
 unfolding afterAll exactOf
@@ -91,17 +85,18 @@ grows e m [] = omega arith
 grows e m (x ∷ xs) = omega (arith, grows e (afterEvent m x) xs, event-adds e m x)
 
 pub after-events : AfterEvents
-after-events = record { within = within; address = address; ratios = ratios; grows = grows }
+after-events = record {
+  within = within;
+  address = all-unseen (λ m. m .address) (λ m s o. refl) (λ m s. refl);
+  ratios = all-unseen (λ m. m .ratios) (λ m s o. refl) (λ m s. refl);
+  grows = grows;
+}
 
 -- ---- without an accepted sample
 
 untaken-adds : (e : ℕ) (m : Meter) (x : Event) → isTaken m x ≡ false → eventAdds e m x ≡ 0
 untaken-adds e m (Event.sample s) h = ap (λ (t : Bool). cond t (carriesFor e s) 0) h
 untaken-adds e m (Event.frame bytes b) h = refl
-
-neither : (a b : Bool) → (a || b) ≡ false → (a ≡ false) × (b ≡ false)
-neither true b h = absurd (false≢true (sym h))
-neither false b h = (refl, h)
 
 pub idle-adds : (e : ℕ) (m : Meter) (xs : List Event) → anyTaken m xs ≡ false → exactOf e m xs ≡ 0
 unfolding exactOf anyTaken

@@ -53,11 +53,12 @@ two-exact = refl
 same-figure : (x y : ℕ) → x ≡ y → (a b : ℕ) → b ≡ a + 3600000 → Bounds a 10 x → Bounds b 10 y → ⊥
 same-figure x y e a b f p q = omega (arith, e, f, p .above, q .below)
 
-same-each-time : (figure : List Event → ℕ) → ((xs : List Event) → figure xs ≡ figure []) → Keeps figure → ⊥
-same-each-time figure same keeps = same-figure (figure []) (figure one) (sym (same one)) _ _ (one-exact ∙ ap (λ (n : ℕ). n + 3600000) (sym none-exact)) (keeps []) (keeps one)
-
 ignores-samples : (figure : List Event → ℕ) → ((s : Sample) (xs : List Event) → figure (Event.sample s ∷ xs) ≡ figure xs) → Keeps figure → ⊥
 ignores-samples figure same keeps = same-figure (figure []) (figure one) (sym (same tenWh [])) _ _ (one-exact ∙ ap (λ (n : ℕ). n + 3600000) (sym none-exact)) (keeps []) (keeps one)
+
+-- what is the same each time ignores samples
+same-each-time : (figure : List Event → ℕ) → ((xs : List Event) → figure xs ≡ figure []) → Keeps figure → ⊥
+same-each-time figure same = ignores-samples figure (λ s xs. same (Event.sample s ∷ xs) ∙ sym (same xs))
 
 first-only : (figure : List Event → ℕ) → ((s t : Sample) (xs : List Event) → figure (Event.sample s ∷ Event.sample t ∷ xs) ≡ figure (Event.sample s ∷ xs)) → Keeps figure → ⊥
 first-only figure same keeps = same-figure (figure one) (figure two) (sym (same tenWh tenWh [])) _ _ (two-exact ∙ ap (λ (n : ℕ). n + 3600000) (sym one-exact)) (keeps one) (keeps two)

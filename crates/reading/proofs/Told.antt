@@ -50,10 +50,10 @@ read-back (Sequence v) = refl
 read-back (Plain v) = refl
 
 -- the case of an answer, and the number behind it
-abbrev caseIn : List ℕ → ℕ
+abbrev pub caseIn : List ℕ → ℕ
 caseIn l = getD l 0 0
 
-abbrev numberIn : List ℕ → ℕ
+abbrev pub numberIn : List ℕ → ℕ
 numberIn l = getD l 1 0
 
 -- two cases of other numbers
