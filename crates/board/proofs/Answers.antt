@@ -9,10 +9,10 @@ use lib.ListN.{length, take, drop}
 use lib.Seq.{sets}
 use borrow.Author.Tests.{lt-ltb, le-ltb}
 use Rattle.refusal.specs.declared.Refusal.{Refusal}
-use Rattle.refusal.specs.declared.Refusal.the-variants.{MeterOutOfLimits, BufferShort}
 use Rattle.refusal.specs.declared.ErrorCode.{ErrorCode}
 use Rattle.refusal.specs.declared.ErrorCode.the-variants.{Function, Address, Data}
-use Rattle.refusal.specs.Numbers.{refusalNumber, errorNumber}
+use Rattle.refusal.specs.Numbers.{errorNumber, refusedBy}
+use Rattle.refusal.proofs.Distinct.{one-reason-each, caseIn, numberIn}
 use Rattle.crc.specs.Crc.{intact}
 use Rattle.directory.specs.Table.{directory}
 use Rattle.modbus.specs.Frame.{addressOf, silence, isRead, isWrite}
@@ -25,18 +25,25 @@ use Rattle.board.specs.declared.Reply.{Reply}
 use Rattle.board.specs.declared.Reply.the-variants.{Silent, Sent, Refused}
 use Rattle.store.specs.Writes.{storedOf}
 use Rattle.board.specs.Board.{Outcome, boardOf}
-use Rattle.board.specs.Answers.{Heeds, Answers, Errs, ReadErrs, WriteErrs, Stores, ExactlyWhen, Obeys, Untouched, FrameWithin, RepliesSealed, BufferUnseen}
+use Rattle.board.specs.Answers.{Heeds, Answers, Errs, ReadErrs, WriteErrs, Quiet, Stores, replyTold, Comes, Rows, ExactlyWhen, Obeys, Untouched, RepliesSealed, BufferUnseen}
 use Rattle.board.proofs.Cases.{board-1, board-2, board-silent}
 use Rattle.store.proofs.Verdicts.{write-when, write-within}
 use Rattle.board.proofs.Views.{Gives, other, misread, shows, miswritten, stores, View, out, short, unheard, for-all, for-one, view}
 use Rattle.board.proofs.Replies.{gives-sent, gives-quiet, gives-long, gives-whole, sent-front, sent-beyond, sent-length, sent-same, Faults, unknown, bad-read, bad-write, faults}
 
--- ---- answers are told apart by a number
+-- ---- answers are told apart by their numbers
 
-abbrev kind : Reply → ℕ
-kind Silent = 0
-kind (Sent n) = 1
-kind (Refused reason) = 2 + refusalNumber reason
+-- the numbers of a reply give it back
+pub reply-back : (a b : Reply) → replyTold a ≡ replyTold b → a ≡ b
+reply-back Silent Silent e = refl
+reply-back Silent (Sent n) e = absurd (omega (arith, ap caseIn e))
+reply-back Silent (Refused r) e = absurd (omega (arith, ap caseIn e))
+reply-back (Sent n) Silent e = absurd (omega (arith, ap caseIn e))
+reply-back (Sent n) (Sent k) e = ap Sent (ap numberIn e)
+reply-back (Sent n) (Refused r) e = absurd (omega (arith, ap caseIn e))
+reply-back (Refused r) Silent e = absurd (omega (arith, ap caseIn e))
+reply-back (Refused r) (Sent n) e = absurd (omega (arith, ap caseIn e))
+reply-back (Refused r) (Refused s) e = ap Refused (one-reason-each .refusals r s (ap numberIn e))
 
 abbrev said : Outcome → Reply
 said o = o .handled .reply
@@ -45,37 +52,45 @@ said o = o .handled .reply
 abbrev heard-as : {x y : Outcome} {r : Reply} → x ≡ y → said x ≡ r → said y ≡ r
 heard-as e h = sym (ap said e) ∙ h
 
-apart {ℓ} : {A : Type ℓ} {x y : Reply} → (kind x ≡ kind y → ⊥) → x ≡ y → A
-apart n e = absurd (n (ap kind e))
+-- two cases of other numbers
+apart {ℓ} : {A : Type ℓ} {x y : Reply} → (caseIn (replyTold x) ≡ caseIn (replyTold y) → ⊥) → x ≡ y → A
+apart n e = absurd (n (ap (λ (r : Reply). caseIn (replyTold r)) e))
 
 -- ---- refusals and silence
 
 module _ (m : Meter) (frame b : List ℕ) where
-  one-to : View m frame b → said (boardOf m frame b) ≡ Refused MeterOutOfLimits → meterOk m ≡ false
-  one-to (out h e) r = h
-  one-to (short h k e) r = apart (λ z. omega arith) (heard-as e r)
-  one-to (unheard h k q e) r = apart (λ z. omega arith) (heard-as e r)
-  one-to (for-all bytes n h z g e) r = apart (λ z. omega arith) (heard-as e r)
-  one-to (for-one bytes n a g e) r = apart (λ z. omega arith) (heard-as e r)
+  -- the number of a refusal, and what it is due to
+  data Refuses (n : ℕ) : Type 0 where
+    by-record : n ≡ 1 → meterOk m ≡ false → Refuses n
+    by-buffer : n ≡ 2 → meterOk m ≡ true → length b < 256 → Refuses n
 
-  two-to : View m frame b → said (boardOf m frame b) ≡ Refused BufferShort → (meterOk m ≡ true) × (length b < 256)
-  two-to (out h e) r = apart (λ z. omega arith) (heard-as e r)
-  two-to (short h k e) r = (h, k)
-  two-to (unheard h k q e) r = apart (λ z. omega arith) (heard-as e r)
-  two-to (for-all bytes n h z g e) r = apart (λ z. omega arith) (heard-as e r)
-  two-to (for-one bytes n a g e) r = apart (λ z. omega arith) (heard-as e r)
+  refuses : View m frame b → (n : ℕ) → Comes m frame b (refusedBy n) → Refuses n
+  refuses (out h e) n r = by-record (sym (ap numberIn (sym (ap (λ (o : Outcome). replyTold (said o)) e) ∙ r))) h
+  refuses (short h k e) n r = by-buffer (sym (ap numberIn (sym (ap (λ (o : Outcome). replyTold (said o)) e) ∙ r))) h k
+  refuses (unheard h k q e) n r = absurd (let z = ap caseIn (sym (ap (λ (o : Outcome). replyTold (said o)) e) ∙ r) in omega (arith, z))
+  refuses (for-all bytes k h z g e) n r = absurd (let z = ap caseIn (sym (ap (λ (o : Outcome). replyTold (said o)) e) ∙ r) in omega (arith, z))
+  refuses (for-one bytes k a g e) n r = absurd (let z = ap caseIn (sym (ap (λ (o : Outcome). replyTold (said o)) e) ∙ r) in omega (arith, z))
 
-  abbrev Quiet : Type 0
-  Quiet = (silence (m .address) frame ≡ true) ⊎ (addressOf frame ≡ 0)
+  row-1 : Refuses 1 → meterOk m ≡ false
+  row-1 (by-record e h) = h
+  row-1 (by-buffer e h k) = absurd (omega (arith, e))
 
-  silent-to : View m frame b → said (boardOf m frame b) ≡ Silent → (meterOk m ≡ true) × (256 ≤ length b) × Quiet
+  row-2 : Refuses 2 → (meterOk m ≡ true) × (length b < 256)
+  row-2 (by-record e h) = absurd (omega (arith, e))
+  row-2 (by-buffer e h k) = (h, k)
+
+  only : (n : ℕ) → Refuses n → (n ≡ 1) ⊎ (n ≡ 2)
+  only n (by-record e h) = inl e
+  only n (by-buffer e h k) = inr e
+
+  silent-to : View m frame b → said (boardOf m frame b) ≡ Silent → (meterOk m ≡ true) × (256 ≤ length b) × Quiet m frame
   silent-to (out h e) r = apart (λ z. omega arith) (heard-as e r)
   silent-to (short h k e) r = apart (λ z. omega arith) (heard-as e r)
   silent-to (unheard h k q e) r = (h, k, inl q)
   silent-to (for-all bytes n h z g e) r = (h .within, h .room, inr z)
   silent-to (for-one bytes n a g e) r = apart (λ z. omega arith) (heard-as e r)
 
-  silent-from : View m frame b → meterOk m ≡ true → 256 ≤ length b → Quiet → said (boardOf m frame b) ≡ Silent
+  silent-from : View m frame b → meterOk m ≡ true → 256 ≤ length b → Quiet m frame → said (boardOf m frame b) ≡ Silent
   silent-from (out h e) k l q = absurd (false≢true (sym h ∙ k))
   silent-from (short h s e) k l q = absurd (omega arith)
   silent-from (unheard h s p e) k l q = ap said e
@@ -89,7 +104,7 @@ five : (frame : List ℕ) (code : ErrorCode) → length (errorReply frame code) 
 five frame code = refl
 
 module _ (m : Meter) (frame b : List ℕ) (code : ErrorCode) where
-  errs-to : View m frame b → Errs code m frame b → Answers m frame b × Faults code m frame
+  errs-to : View m frame b → Errs (errorNumber code) m frame b → Answers m frame b × Faults code m frame
   errs-to (out h e) r = apart (λ z. omega arith) (ap said (sym e ∙ r))
   errs-to (short h k e) r = apart (λ z. omega arith) (ap said (sym e ∙ r))
   errs-to (unheard h k q e) r = apart (λ z. omega arith) (ap said (sym e ∙ r))
@@ -98,7 +113,7 @@ module _ (m : Meter) (frame b : List ℕ) (code : ErrorCode) where
       let room = a .heeds .room in
       (a, faults m frame bytes n code g (sent-same bytes (errorReply frame code) n m b (omega (arith, gives-long m frame bytes n g)) (omega (arith, five frame code)) (sym e ∙ r)))
 
-  errs-from : Answers m frame b → ReadErrs code frame ⊎ WriteErrs code m frame → Errs code m frame b
+  errs-from : Answers m frame b → ReadErrs code frame ⊎ WriteErrs code m frame → Errs (errorNumber code) m frame b
   errs-from a (inl r) = gives-sent m frame b a (errorReply frame code) m (misread code (r .0) (r .1) refl refl)
   errs-from a (inr w) = gives-sent m frame b a (errorReply frame code) m (miswritten code (w .0) (w .1) refl refl)
 
@@ -108,7 +123,7 @@ module _ (m : Meter) (frame b : List ℕ) (code : ErrorCode) where
   named n (bad-read h) = inl h
   named n (bad-write h) = inr h
 
-  errs-when : (Function ≡ code → ⊥) → Errs code m frame b ↔ (Answers m frame b × (ReadErrs code frame ⊎ WriteErrs code m frame))
+  errs-when : (Function ≡ code → ⊥) → Errs (errorNumber code) m frame b ↔ (Answers m frame b × (ReadErrs code frame ⊎ WriteErrs code m frame))
   errs-when n = (λ h. let t = errs-to (view m frame b) h in (t .0, named n (t .1)), λ h. errs-from (h .0) (h .1))
 
 -- 01 is due to neither
@@ -117,19 +132,23 @@ no-function m frame (unknown r w e) = (r, w)
 no-function m frame (bad-read h) = absurd (read-when .never directory frame (h .1))
 no-function m frame (bad-write h) = absurd (write-when .never m frame (h .1))
 
+module _ (m : Meter) (frame b : List ℕ) where
+  rows : Rows m frame b
+  rows = record {
+    row-1 = (λ h. row-1 m frame b (refuses m frame b (view m frame b) 1 h), λ h. ap (λ (o : Outcome). replyTold (said o)) (sym (board-1 m frame b h)));
+    row-2 = (λ h. row-2 m frame b (refuses m frame b (view m frame b) 2 h), λ h. ap (λ (o : Outcome). replyTold (said o)) (sym (board-2 m frame b (h .0) (lt-ltb _ _ (h .1)))));
+    only = λ n h. only m frame b n (refuses m frame b (view m frame b) n h);
+    silent = (silent-to m frame b (view m frame b), λ h. silent-from m frame b (view m frame b) (h .0) (h .1) (h .2));
+    error-01 = (
+      λ h. let t = errs-to m frame b Function (view m frame b) h in let f = no-function m frame (t .1) in (t .0, f .0, f .1),
+      λ h. gives-sent m frame b (h .0) (errorReply frame Function) m (other (h .1) (h .2) refl refl),
+    );
+    error-02 = errs-when m frame b Address (λ e. let z : 1 ≡ 2 = ap errorNumber e in omega arith);
+    error-03 = errs-when m frame b Data (λ e. let z : 1 ≡ 3 = ap errorNumber e in omega arith);
+  }
+
 pub exactly-when : ExactlyWhen
-exactly-when =
-    record {
-      one = λ m frame b. (one-to m frame b (view m frame b), λ h. ap said (sym (board-1 m frame b h)));
-      two = λ m frame b. (two-to m frame b (view m frame b), λ h. ap said (sym (board-2 m frame b (h .0) (lt-ltb _ _ (h .1)))));
-      silent = λ m frame b. (silent-to m frame b (view m frame b), λ h. silent-from m frame b (view m frame b) (h .0) (h .1) (h .2));
-      error-01 = λ m frame b. (
-        λ h. let t = errs-to m frame b Function (view m frame b) h in let f = no-function m frame (t .1) in (t .0, f .0, f .1),
-        λ h. gives-sent m frame b (h .0) (errorReply frame Function) m (other (h .1) (h .2) refl refl),
-      );
-      error-02 = λ m frame b. errs-when m frame b Address (λ e. let z : 1 ≡ 2 = ap errorNumber e in omega arith);
-      error-03 = λ m frame b. errs-when m frame b Data (λ e. let z : 1 ≡ 3 = ap errorNumber e in omega arith);
-    }
+exactly-when = record { rows = rows }
 
 pub obeys : Obeys
 obeys =
@@ -234,10 +253,11 @@ reply-long m frame b is e = replies-sealed .long m frame b _ (ap (λ (x : Handle
 
 kept-within : (m : Meter) (frame b : List ℕ) (n : Meter) → meterOk m ≡ true → Kept m frame b n → meterOk n ≡ true
 kept-within m frame b n h (inl e) = ap meterOk e ∙ h
-kept-within m frame b n h (inr s) = ap meterOk (s .2 ∙ sym (write-when .stored m frame (s .1 .1))) ∙ write-within .write m frame h
+kept-within m frame b n h (inr s) = ap meterOk (s .2 ∙ sym (write-when .stored m frame (s .1 .1))) ∙ write-within m frame h
 
-pub frame-within : FrameWithin
-frame-within = record { frame = λ m frame b h. kept-within m frame b _ h (untouched .altered m frame b) }
+-- a frame keeps a record within limits
+pub frame-within : (m : Meter) (frame b : List ℕ) → meterOk m ≡ true → meterOk (boardOf m frame b .handled .meter) ≡ true
+frame-within m frame b h = kept-within m frame b _ h (untouched .altered m frame b)
 
 -- ---- the buffer is not seen
 

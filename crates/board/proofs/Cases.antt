@@ -18,11 +18,11 @@ use Rattle.board.specs.declared.Reply.the-variants.{Sent}
 use Rattle.store.specs.declared.Written.{Written}
 use Rattle.board.specs.Reads.{readReply}
 use Rattle.store.specs.Writes.{writtenOf, writeReply}
-use Rattle.board.specs.Board.{Outcome, refusedOf, silentOf, replyOf, obeyedOf, boardOf}
+use Rattle.board.specs.Board.{Outcome, Allowed, refusedOf, silentOf, replyOf, obeyedOf, boardOf}
 
--- the two parts that a contract speaks of
-pub parts : {x y : Outcome} → x ≡ y → (x .handled ≡ y .handled) × (x .buffer ≡ y .buffer)
-parts e = (ap (λ (o : Outcome). o .handled) e, ap (λ (o : Outcome). o .buffer) e)
+-- what is defined is allowed
+pub allowed : {x y : Outcome} → x ≡ y → Allowed y (x .handled) (x .buffer)
+allowed e = record { handled = ap (λ (o : Outcome). o .handled) e; bytes = ap (λ (o : Outcome). o .buffer) e }
 
 module _ (m : Meter) (frame buffer : List ℕ) where
   pub board-1 : meterOk m ≡ false → refusedOf MeterOutOfLimits m buffer ≡ boardOf m frame buffer

@@ -4,12 +4,12 @@ use mathlib.Core.Path.{_≡_}
 use mathlib.Core.Logic.{_↔_, _⊎_}
 use Prim.Native.Nat.{ℕ, _≤_, _<_}
 use mathlib.Core.Bool.{true, false}
-use mathlib.Core.List.{List}
+use mathlib.Core.List.{List, [], _∷_}
 use lib.ListN.{length, take, drop}
 use Rattle.refusal.specs.declared.Refusal.{Refusal}
-use Rattle.refusal.specs.declared.Refusal.the-variants.{MeterOutOfLimits, BufferShort}
 use Rattle.refusal.specs.declared.ErrorCode.{ErrorCode}
-use Rattle.refusal.specs.declared.ErrorCode.the-variants.{Function, Address, Data}
+use Rattle.refusal.specs.declared.ErrorCode.the-variants.{Address, Data}
+use Rattle.refusal.specs.Numbers.{refusalNumber, refusedBy}
 use Rattle.crc.specs.Crc.{intact}
 use Rattle.directory.specs.declared.Span.the-variants.{Items, Error}
 use Rattle.directory.specs.Table.{directory}
@@ -17,9 +17,10 @@ use Rattle.directory.specs.Run.{runItems}
 use Rattle.modbus.specs.declared.Verdict.the-variants.{Good, Wrong}
 use Rattle.modbus.specs.Frame.{addressOf, silence, isRead, isWrite}
 use Rattle.modbus.specs.Read.{readIn}
-use Rattle.modbus.specs.Replies.{errorReply, echoReply, dataReply}
+use Rattle.modbus.specs.Replies.{errorBytes, echoReply, dataReply}
 use Rattle.meter.specs.declared.Meter.{Meter}
 use Rattle.meter.specs.Meters.{meterOk}
+use Rattle.board.specs.declared.Reply.{Reply}
 use Rattle.board.specs.declared.Reply.the-variants.{Silent, Sent, Refused}
 use Rattle.board.specs.Reads.{itemsSent}
 use Rattle.store.specs.Writes.{storedOf, writtenOf}
@@ -36,9 +37,9 @@ pub record Answers (m : Meter) (frame buffer : List ℕ) : Type 0 where
   pub heeds : Heeds m frame buffer
   pub own : addressOf frame ≡ 0 → ⊥
 
--- it answers with an error code, its record as it was
-abbrev pub Errs : ErrorCode → Meter → List ℕ → List ℕ → Type 0
-Errs code m frame buffer = boardOf m frame buffer ≡ sentOf (errorReply frame code) m buffer
+-- it answers with the error reply of a code, its record as it was
+abbrev pub Errs : ℕ → Meter → List ℕ → List ℕ → Type 0
+Errs code m frame buffer = boardOf m frame buffer ≡ sentOf (errorBytes frame code) m buffer
 
 -- a read that an error code is due to
 abbrev pub ReadErrs : ErrorCode → List ℕ → Type 0
@@ -48,18 +49,37 @@ ReadErrs code frame = (isRead frame ≡ true) × (readIn directory frame ≡ Err
 abbrev pub WriteErrs : ErrorCode → Meter → List ℕ → Type 0
 WriteErrs code m frame = (isWrite frame ≡ true) × (writtenOf m frame .verdict ≡ Wrong code)
 
+-- 2. Silence; and address 0 has it always
+abbrev pub Quiet : Meter → List ℕ → Type 0
+Quiet m frame = (silence (m .address) frame ≡ true) ⊎ (addressOf frame ≡ 0)
+
 -- a write that is legal
 abbrev pub Stores : Meter → List ℕ → Type 0
 Stores m frame = (isWrite frame ≡ true) × (writtenOf m frame .verdict ≡ Good)
 
+-- a reply in numbers: 0 for silence; 1 and the bytes sent; the number of the refusal
+abbrev pub replyTold : Reply → List ℕ
+replyTold Silent = 0 ∷ []
+replyTold (Sent n) = 1 ∷ n ∷ []
+replyTold (Refused reason) = refusedBy (refusalNumber reason)
+
+-- what a frame is answered with, in these numbers
+abbrev pub Comes : Meter → List ℕ → List ℕ → List ℕ → Type 0
+Comes m frame b numbers = replyTold (boardOf m frame b .handled .reply) ≡ numbers
+
+-- of one call: refusals 1 and 2, no other; silence; error codes 01, 02 and 03
+pub record Rows (m : Meter) (frame b : List ℕ) : Type 0 where
+  pub row-1 : Comes m frame b (refusedBy 1) ↔ (meterOk m ≡ false)
+  pub row-2 : Comes m frame b (refusedBy 2) ↔ ((meterOk m ≡ true) × (length b < 256))
+  pub only : (n : ℕ) → Comes m frame b (refusedBy n) → (n ≡ 1) ⊎ (n ≡ 2)
+  pub silent : (boardOf m frame b .handled .reply ≡ Silent) ↔ ((meterOk m ≡ true) × (256 ≤ length b) × Quiet m frame)
+  pub error-01 : Errs 1 m frame b ↔ (Answers m frame b × (isRead frame ≡ false) × (isWrite frame ≡ false))
+  pub error-02 : Errs 2 m frame b ↔ (Answers m frame b × (ReadErrs Address frame ⊎ WriteErrs Address m frame))
+  pub error-03 : Errs 3 m frame b ↔ (Answers m frame b × (ReadErrs Data frame ⊎ WriteErrs Data m frame))
+
 -- STATEMENT: refusals 1 and 2, silence, and error codes 01, 02 and 03 are given exactly when their rule says
 pub record ExactlyWhen : Type 0 where
-  pub one : (m : Meter) (frame b : List ℕ) → (boardOf m frame b .handled .reply ≡ Refused MeterOutOfLimits) ↔ (meterOk m ≡ false)
-  pub two : (m : Meter) (frame b : List ℕ) → (boardOf m frame b .handled .reply ≡ Refused BufferShort) ↔ ((meterOk m ≡ true) × (length b < 256))
-  pub silent : (m : Meter) (frame b : List ℕ) → (boardOf m frame b .handled .reply ≡ Silent) ↔ ((meterOk m ≡ true) × (256 ≤ length b) × ((silence (m .address) frame ≡ true) ⊎ (addressOf frame ≡ 0)))
-  pub error-01 : (m : Meter) (frame b : List ℕ) → Errs Function m frame b ↔ (Answers m frame b × (isRead frame ≡ false) × (isWrite frame ≡ false))
-  pub error-02 : (m : Meter) (frame b : List ℕ) → Errs Address m frame b ↔ (Answers m frame b × (ReadErrs Address frame ⊎ WriteErrs Address m frame))
-  pub error-03 : (m : Meter) (frame b : List ℕ) → Errs Data m frame b ↔ (Answers m frame b × (ReadErrs Data frame ⊎ WriteErrs Data m frame))
+  pub rows : (m : Meter) (frame b : List ℕ) → Rows m frame b
 
 -- STATEMENT: a read that is not wrong is answered with its items' words, and a legal write is stored and echoed; address 0: stored, and silence
 pub record Obeys : Type 0 where
@@ -76,10 +96,6 @@ pub record Untouched : Type 0 where
   pub beyond : (m : Meter) (frame b : List ℕ) (n : ℕ) → boardOf m frame b .handled .reply ≡ Sent n → drop n (boardOf m frame b .buffer) ≡ drop n b
   pub altered : (m : Meter) (frame b : List ℕ) → (boardOf m frame b .handled .meter ≡ m) ⊎ (Heeds m frame b × Stores m frame × (boardOf m frame b .handled .meter ≡ storedOf m frame))
   pub for-all : (m : Meter) (frame b : List ℕ) (n : ℕ) → addressOf frame ≡ 0 → boardOf m frame b .handled .reply ≡ Sent n → ⊥
-
--- STATEMENT: frames keep a record within limits
-pub record FrameWithin : Type 0 where
-  pub frame : (m : Meter) (frame b : List ℕ) → meterOk m ≡ true → meterOk (boardOf m frame b .handled .meter) ≡ true
 
 -- STATEMENT: every reply's CRC is right, and its length at most 256
 pub record RepliesSealed : Type 0 where

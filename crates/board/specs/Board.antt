@@ -1,4 +1,5 @@
 -- Paper 01, "What the meter does with a frame": its five steps in their order, first that applies, and address 0.
+use mathlib.Core.Path.{_≡_}
 use Prim.Native.Nat.{ℕ}
 use mathlib.Core.Bool.{_&&_, not, cond}
 use mathlib.Core.List.{List}
@@ -21,6 +22,11 @@ use Rattle.store.specs.Writes.{writtenOf, writeReply}
 pub record Outcome : Type 0 where
   pub handled : Handled
   pub buffer : List ℕ
+
+-- all that a contract allows of an answer, the record in it and the buffer: what is defined
+pub record Allowed (defined : Outcome) (x : Handled) (buffer : List ℕ) : Type 0 where
+  pub handled : x ≡ defined .handled
+  pub bytes : buffer ≡ defined .buffer
 
 -- a refusal returns its number; every record and buffer is as before
 abbrev pub refusedOf : Refusal → Meter → List ℕ → Outcome

@@ -7,7 +7,7 @@ ghost use Prim.Native.Nat.{_≤_};
 ghost use lib.ListN.{length};
 ghost use Rattle.modbus.specs.Frame.{silence, isWrite};
 ghost use Rattle.meter.specs.Meters.{meterOk};
-ghost use Rattle.board.specs.Board.{obeyedOf, boardOf};
+ghost use Rattle.board.specs.Board.{Allowed, obeyedOf, boardOf};
 use meter::Meter;
 use modbus::Verdict;
 use refusal::ErrorCode;
@@ -28,8 +28,7 @@ pub struct Handled {
 
 // What a meter does with a frame. A reply is put at the start of the buffer, and the rest of it stays.
 pub fn handle(meter: Meter, frame: &[u8], buffer: &mut [u8]) -> Handled
-    ensures { λ r. ⌜ r ≡ boardOf meter (now (frame .entry)) (now (buffer .entry)) .handled ⌝ }
-    ensures { λ _. ⌜ now (buffer .exit) ≡ boardOf meter (now (frame .entry)) (now (buffer .entry)) .buffer ⌝ }
+    ensures { λ r. ⌜ Allowed (boardOf meter (now (frame .entry)) (now (buffer .entry))) r (now (buffer .exit)) ⌝ }
 {
     if !meter.within() {
         return with(meter, Reply::Refused(Refusal::MeterOutOfLimits));
@@ -54,8 +53,7 @@ fn obey(meter: Meter, frame: &[u8], buffer: &mut [u8]) -> Handled
     requires { ⌜ meterOk meter ≡ true ⌝ }
     requires { ⌜ silence (meter .address) (now frame) ≡ false ⌝ }
     requires { ⌜ 256 ≤ length (now buffer) ⌝ }
-    ensures { λ r. ⌜ r ≡ obeyedOf meter (now (frame .entry)) (now (buffer .entry)) .handled ⌝ }
-    ensures { λ _. ⌜ now (buffer .exit) ≡ obeyedOf meter (now (frame .entry)) (now (buffer .entry)) .buffer ⌝ }
+    ensures { λ r. ⌜ Allowed (obeyedOf meter (now (frame .entry)) (now (buffer .entry))) r (now (buffer .exit)) ⌝ }
 {
     if frame[1] == modbus::WRITE {
         return write(meter, frame, buffer);
@@ -78,8 +76,7 @@ fn write(meter: Meter, frame: &[u8], buffer: &mut [u8]) -> Handled
     requires { ⌜ silence (meter .address) (now frame) ≡ false ⌝ }
     requires { ⌜ isWrite (now frame) ≡ true ⌝ }
     requires { ⌜ 256 ≤ length (now buffer) ⌝ }
-    ensures { λ r. ⌜ r ≡ obeyedOf meter (now (frame .entry)) (now (buffer .entry)) .handled ⌝ }
-    ensures { λ _. ⌜ now (buffer .exit) ≡ obeyedOf meter (now (frame .entry)) (now (buffer .entry)) .buffer ⌝ }
+    ensures { λ r. ⌜ Allowed (obeyedOf meter (now (frame .entry)) (now (buffer .entry))) r (now (buffer .exit)) ⌝ }
 {
     let written = store::write(meter, frame);
     let next = written.meter;

@@ -1,9 +1,9 @@
 -- When each answer is given: every call comes to one of the rows or rules, and each of them leads to its answer alone.
 use mathlib.Core.Path.{_≡_, refl, sym, ap, subst, _∙_}
-use mathlib.Core.Logic.{inl, inr}
+use mathlib.Core.Logic.{_↔_, _⊎_, inl, inr}
 use mathlib.Core.Bool.{Bool, true, false, _||_, not, cond, false≢true}
 use mathlib.Core.List.{List}
-use Prim.Native.Nat.{ℕ, _+_, _≤_, _<_}
+use Prim.Native.Nat.{ℕ, zero, suc, _+_, _≤_, _<_}
 use native.Mathlib.Omega.{arith}
 use lib.Dec.{ltb, eqb}
 use lib.ListN.{length, getD}
@@ -12,7 +12,8 @@ use Rattle.refusal.specs.declared.Refusal.{Refusal}
 use Rattle.refusal.specs.declared.Refusal.the-variants.{MeterOutOfLimits, BufferShort, RatioOutOfLimits, OwnAddressZero, SampleOutOfLimits, EnergyPastTop, NotARead, ReplyLength, ReplyCrc, ReplyForeign, ReplyMisfit, IndexPastItems, ValueImpossible, JoinPastTop}
 use Rattle.refusal.specs.declared.ErrorCode.{ErrorCode}
 use Rattle.refusal.specs.declared.ErrorCode.the-variants.{Function, Address, Data}
-use Rattle.refusal.specs.Numbers.{errorNumber}
+use Rattle.refusal.specs.Numbers.{refusalNumber, errorNumber, refusedBy, errorBy}
+use Rattle.refusal.proofs.Distinct.{one-reason-each, caseIn, numberIn}
 use Rattle.crc.specs.Crc.{intact}
 use Rattle.words.specs.Words.{valueAt}
 use Rattle.ratio.specs.declared.Ratios.{Ratios}
@@ -32,10 +33,11 @@ use Rattle.reading.specs.declared.Answer.{Answer}
 use Rattle.reading.specs.declared.Answer.the-variants.{Reading, Error, Refused}
 use Rattle.reading.specs.Cases.{told}
 use Rattle.reading.specs.Readings.{readingOf}
+use Rattle.reading.proofs.Told.{one-answer-each}
 use Rattle.reading.proofs.Thirteen.{Entry, item-entry, thirteen-when}
 use Rattle.reading.proofs.Thirteen.Entry.{reads, refused}
 use Rattle.collector.specs.Collector.{heard, lengthWrong, isReadError, foreign, thirdOf, codeOf, errorOf, misfit, placeOf, itemOf, replyOf, collectorOf}
-use Rattle.collector.specs.Answers.{Asks, Asked, Sound, Fits, Holds, itemAt, valueIn, errorMisfit, Row, Errs, Reads, ExactlyWhen, NotMisread}
+use Rattle.collector.specs.Answers.{Asks, Asked, Sound, Fits, Holds, itemAt, valueIn, errorMisfit, Foreign, Misfits, Past, Impossible, Comes, Errs, Reads, Rows, ExactlyWhen, NotMisread}
 use Rattle.collector.proofs.Places.{run-length, run-at, item-past, item-reads}
 use Rattle.collector.proofs.Judged.{length-refused, crc-refused, foreign-refused, error-given, misfit-refused, item-given, fitting}
 
@@ -66,6 +68,23 @@ error-code reply Address five says = simp (eq-eqb (length reply) 5 five, says)
 error-code reply Data five says = simp (eq-eqb (length reply) 5 five, says)
 
 -- ---- each row and rule leads to its answer
+
+-- the rows of the table by their reasons; the others are never given to a reading
+abbrev pub Row : Refusal → List ℕ → List ℕ → Ratios → ℕ → Type 0
+Row RatioOutOfLimits request reply r index = ratiosOk r ≡ false
+Row NotARead request reply r index = (ratiosOk r ≡ true) × (Asks request → ⊥)
+Row ReplyLength request reply r index = Asked request r × (lengthWrong reply ≡ true)
+Row ReplyCrc request reply r index = Asked request r × (lengthWrong reply ≡ false) × (intact reply ≡ false)
+Row ReplyForeign request reply r index = Foreign request reply r
+Row ReplyMisfit request reply r index = Misfits request reply r
+Row IndexPastItems request reply r index = Past request reply r index
+Row ValueImpossible request reply r index = Impossible request reply r index
+Row MeterOutOfLimits request reply r index = ⊥
+Row BufferShort request reply r index = ⊥
+Row OwnAddressZero request reply r index = ⊥
+Row SampleOutOfLimits request reply r index = ⊥
+Row EnergyPastTop request reply r index = ⊥
+Row JoinPastTop request reply r index = ⊥
 
 module _ (request reply : List ℕ) (r : Ratios) (index : ℕ) where
   abbrev answer : Answer
@@ -101,7 +120,7 @@ module _ (request reply : List ℕ) (r : Ratios) (index : ℕ) where
       by true (span.Error code) e f = rw (ok, e, f) refl
       by true (span.Items first count) e f = absurd (other (record { hears = e; first = first; count = count; items = f }))
 
-  row : (reason : Refusal) → Row reason request reply r index → answer ≡ Refused reason
+  pub row : (reason : Refusal) → Row reason request reply r index → answer ≡ Refused reason
   row RatioOutOfLimits h = ratio-row h
   row NotARead h = request-row (h .0) (h .1)
   row ReplyLength h = to-reply (h .0) ∙ sym (length-refused _ _ _ _ _ (h .1))
@@ -123,7 +142,7 @@ module _ (request reply : List ℕ) (r : Ratios) (index : ℕ) where
   row EnergyPastTop h = absurd h
   row JoinPastTop h = absurd h
 
-  errs : (code : ErrorCode) → Errs request reply r code → answer ≡ Error code
+  pub errs : (code : ErrorCode) → Errs request reply r (errorNumber code) → answer ≡ Error code
   errs code h =
       let s = h .sound in
       to-reply (s .asked) ∙ sym (error-given _ _ _ _ _ (s .long) (s .whole) (s .own) (h .error)) ∙ error-code reply code (h .long) (h .says)
@@ -135,15 +154,15 @@ module _ (request reply : List ℕ) (r : Ratios) (index : ℕ) where
 
 pub data Outcome (request reply : List ℕ) (r : Ratios) (index : ℕ) : Type 0 where
   refuses : (reason : Refusal) → Row reason request reply r index → Outcome request reply r index
-  errors : (code : ErrorCode) → Errs request reply r code → Outcome request reply r index
+  errors : (code : ErrorCode) → Errs request reply r (errorNumber code) → Outcome request reply r index
   tells : (q : Quantity) → Reads request reply r index q → Outcome request reply r index
 
 module _ (request reply : List ℕ) (r : Ratios) (index : ℕ) where
-  abbrev Comes : Type 0
-  Comes = Outcome request reply r index
+  abbrev Found : Type 0
+  Found = Outcome request reply r index
 
   -- 13, or the reading
-  at-item : (h : Holds request reply r index) → Comes
+  at-item : (h : Holds request reply r index) → Found
   at-item h =
       let a = h .fits .sound .asked .asks in
       by (item-entry (tOf r) (itemAt a index) (valueIn a reply index))
@@ -151,23 +170,23 @@ module _ (request reply : List ℕ) (r : Ratios) (index : ℕ) where
       a : Asks request
       a = h .fits .sound .asked .asks
 
-      by : {k : ℕ} → Entry k (readingOf (tOf r) (itemAt a index) (valueIn a reply index)) → Comes
+      by : {k : ℕ} → Entry k (readingOf (tOf r) (itemAt a index) (valueIn a reply index)) → Found
       by (reads q e k) = tells q (record { holds = h; reading = e })
       by (refused e) = refuses ValueImpossible (record { holds = h; value = thirteen-when .refused (tOf r) (a .first + index) (valueIn a reply index) (omega (arith, legal-read (a .items) .inside, h .below)) .0 e })
 
   -- 12
-  at-index : (f : Fits request reply r) → Comes
+  at-index : (f : Fits request reply r) → Found
   at-index f = by (ltb index n) refl
     where
       n : ℕ
       n = f .sound .asked .asks .count
 
-      by : (t : Bool) → ltb index n ≡ t → Comes
+      by : (t : Bool) → ltb index n ≡ t → Found
       by true e = at-item (record { fits = f; below = ltb-true index n e })
       by false e = refuses IndexPastItems (record { fits = f; past = ltb-false index n e })
 
   -- the code of an error reply
-  at-code : (h : Sound request reply r) → isReadError reply ≡ true → errorMisfit reply ≡ false → Comes
+  at-code : (h : Sound request reply r) → isReadError reply ≡ true → errorMisfit reply ≡ false → Found
   at-code h e m = by (eqb n 1) (eqb n 2) refl refl
     where
       n : ℕ
@@ -182,57 +201,42 @@ module _ (request reply : List ℕ) (r : Ratios) (index : ℕ) where
       range : (1 ≤ n) × (n ≤ 3)
       range = let t = neither (ltb n 1) (ltb 3 n) (parts .1) in (ltb-false n 1 (t .0), ltb-false 3 n (t .1))
 
-      by : (a b : Bool) → eqb n 1 ≡ a → eqb n 2 ≡ b → Comes
-      by true b x y = errors Function (record { sound = h; error = e; long = five; says = eqb-true n 1 x })
-      by false true x y = errors Address (record { sound = h; error = e; long = five; says = eqb-true n 2 y })
-      by false false x y = errors Data (record { sound = h; error = e; long = five; says = omega (arith, range, eqb-false n 1 x, eqb-false n 2 y) })
+      by : (a b : Bool) → eqb n 1 ≡ a → eqb n 2 ≡ b → Found
+      by true b x y = errors Function (record { sound = h; error = e; long = five; says = eqb-true n 1 x; some = omega arith; most = omega arith })
+      by false true x y = errors Address (record { sound = h; error = e; long = five; says = eqb-true n 2 y; some = omega arith; most = omega arith })
+      by false false x y = errors Data (record { sound = h; error = e; long = five; says = omega (arith, range, eqb-false n 1 x, eqb-false n 2 y); some = omega arith; most = omega arith })
 
   -- 11
-  at-shape : (h : Sound request reply r) → Comes
+  at-shape : (h : Sound request reply r) → Found
   at-shape h = by (isReadError reply) (errorMisfit reply) (misfit request reply) refl refl refl
     where
-      by : (e m d : Bool) → isReadError reply ≡ e → errorMisfit reply ≡ m → misfit request reply ≡ d → Comes
+      by : (e m d : Bool) → isReadError reply ≡ e → errorMisfit reply ≡ m → misfit request reply ≡ d → Found
       by true true d x y z = refuses ReplyMisfit (h, inl (x, y))
       by true false d x y z = at-code h x y
       by false m true x y z = refuses ReplyMisfit (h, inr (x, z))
       by false m false x y z = at-index (record { sound = h; words = x; fits = z })
 
   -- 8 to 10
-  at-reply : (a : Asked request r) → Comes
+  at-reply : (a : Asked request r) → Found
   at-reply a = by (lengthWrong reply) (intact reply) (foreign request reply) refl refl refl
     where
-      by : (l i f : Bool) → lengthWrong reply ≡ l → intact reply ≡ i → foreign request reply ≡ f → Comes
+      by : (l i f : Bool) → lengthWrong reply ≡ l → intact reply ≡ i → foreign request reply ≡ f → Found
       by true i f x y z = refuses ReplyLength (a, x)
       by false false f x y z = refuses ReplyCrc (a, x, y)
       by false true true x y z = refuses ReplyForeign (a, x, y, z)
       by false true false x y z = at-shape (record { asked = a; long = x; whole = y; own = z })
 
   -- 3 and 7
-  outcome : Comes
+  outcome : Found
   outcome = by (ratiosOk r) (heard request) (readIn directory request) refl refl refl
     where
-      by : (o h : Bool) (s : Span) → ratiosOk r ≡ o → heard request ≡ h → readIn directory request ≡ s → Comes
+      by : (o h : Bool) (s : Span) → ratiosOk r ≡ o → heard request ≡ h → readIn directory request ≡ s → Found
       by false h s x y z = refuses RatioOutOfLimits x
       by true false s x y z = refuses NotARead (x, λ asks. false≢true (sym y ∙ asks .hears))
       by true true (span.Error code) x y z = refuses NotARead (x, λ asks. no-run code z (asks .items))
       by true true (span.Items first count) x y z = at-reply (record { ratios = x; asks = record { hears = y; first = first; count = count; items = z } })
 
 -- ---- and to no two
-
--- the case of an answer
-abbrev caseOf : Answer → ℕ
-caseOf a = getD (told a) 0 0
-
--- what a case holds; any other holds nothing of the kind
-abbrev reasonIn : Answer → Refusal
-reasonIn (Reading q) = NotARead
-reasonIn (Error code) = NotARead
-reasonIn (Refused reason) = reason
-
-abbrev codeIn : Answer → ErrorCode
-codeIn (Reading q) = Function
-codeIn (Error code) = code
-codeIn (Refused reason) = Function
 
 abbrev quantityIn : Quantity → Answer → Quantity
 quantityIn d (Reading q) = q
@@ -243,27 +247,79 @@ module _ (request reply : List ℕ) (r : Ratios) (index : ℕ) where
   abbrev given : Answer
   given = collectorOf request reply r index
 
-  only-row : (reason : Refusal) → given ≡ Refused reason → Outcome request reply r index → Row reason request reply r index
-  only-row reason h (refuses x w) = subst (λ (y : Refusal). Row y request reply r index) (ap reasonIn (sym (row request reply r index x w) ∙ h)) w
-  only-row reason h (errors code e) = absurd (let z = ap caseOf (sym (errs request reply r index code e) ∙ h) in omega (arith, z))
-  only-row reason h (tells q e) = absurd (let z = ap caseOf (sym (reading request reply r index q e) ∙ h) in omega (arith, z))
+  -- what each outcome says in numbers
+  refuses-told : (reason : Refusal) → Row reason request reply r index → Comes request reply r index (refusedBy (refusalNumber reason))
+  refuses-told reason w = ap told (row request reply r index reason w)
 
-  only-error : (code : ErrorCode) → given ≡ Error code → Outcome request reply r index → Errs request reply r code
-  only-error code h (refuses x w) = absurd (let z = ap caseOf (sym (row request reply r index x w) ∙ h) in omega (arith, z))
-  only-error code h (errors y e) = subst (λ (c : ErrorCode). Errs request reply r c) (ap codeIn (sym (errs request reply r index y e) ∙ h)) e
-  only-error code h (tells q e) = absurd (let z = ap caseOf (sym (reading request reply r index q e) ∙ h) in omega (arith, z))
+  errors-told : (code : ErrorCode) → Errs request reply r (errorNumber code) → Comes request reply r index (errorBy (errorNumber code))
+  errors-told code e = ap told (errs request reply r index code e)
+
+  -- a refusal is due to its row
+  only-row : (reason : Refusal) → given ≡ Refused reason → Outcome request reply r index → Row reason request reply r index
+  only-row reason h (refuses x w) = subst (λ (y : Refusal). Row y request reply r index) (one-reason-each .refusals x reason (ap numberIn (sym (refuses-told x w) ∙ ap told h))) w
+  only-row reason h (errors code e) = absurd (let z = ap caseIn (sym (errors-told code e) ∙ ap told h) in omega (arith, z))
+  only-row reason h (tells q e) = absurd (let z = ap caseIn (ap told (sym (reading request reply r index q e) ∙ h)) in omega (arith, z))
+
+  by-number : (reason : Refusal) → Comes request reply r index (refusedBy (refusalNumber reason)) ↔ Row reason request reply r index
+  by-number reason = (λ h. only-row reason (one-answer-each .answers given (Refused reason) h) (outcome request reply r index), refuses-told reason)
+
+  -- the numbers of the rows
+  numbered : (reason : Refusal) → Row reason request reply r index → (refusalNumber reason ≡ 3) ⊎ ((7 ≤ refusalNumber reason) × (refusalNumber reason ≤ 13))
+  numbered RatioOutOfLimits w = inl refl
+  numbered NotARead w = inr (omega arith, omega arith)
+  numbered ReplyLength w = inr (omega arith, omega arith)
+  numbered ReplyCrc w = inr (omega arith, omega arith)
+  numbered ReplyForeign w = inr (omega arith, omega arith)
+  numbered ReplyMisfit w = inr (omega arith, omega arith)
+  numbered IndexPastItems w = inr (omega arith, omega arith)
+  numbered ValueImpossible w = inr (omega arith, omega arith)
+  numbered MeterOutOfLimits w = absurd w
+  numbered BufferShort w = absurd w
+  numbered OwnAddressZero w = absurd w
+  numbered SampleOutOfLimits w = absurd w
+  numbered EnergyPastTop w = absurd w
+  numbered JoinPastTop w = absurd w
+
+  only : (n : ℕ) → Comes request reply r index (refusedBy n) → Outcome request reply r index → (n ≡ 3) ⊎ ((7 ≤ n) × (n ≤ 13))
+  only n h (refuses x w) = subst (λ (k : ℕ). (k ≡ 3) ⊎ ((7 ≤ k) × (k ≤ 13))) (ap numberIn (sym (refuses-told x w) ∙ h)) (numbered x w)
+  only n h (errors code e) = absurd (let z = ap caseIn (sym (errors-told code e) ∙ h) in omega (arith, z))
+  only n h (tells q e) = absurd (let z = ap caseIn (sym (ap told (reading request reply r index q e)) ∙ h) in omega (arith, z))
+
+  only-error : (n : ℕ) → Comes request reply r index (errorBy n) → Outcome request reply r index → Errs request reply r n
+  only-error n h (refuses x w) = absurd (let z = ap caseIn (sym (refuses-told x w) ∙ h) in omega (arith, z))
+  only-error n h (errors code e) = subst (λ (k : ℕ). Errs request reply r k) (ap numberIn (sym (errors-told code e) ∙ h)) e
+  only-error n h (tells q e) = absurd (let z = ap caseIn (sym (ap told (reading request reply r index q e)) ∙ h) in omega (arith, z))
+
+  -- a code that is 1, 2 or 3 has its name
+  errs-told : (n : ℕ) → Errs request reply r n → Comes request reply r index (errorBy n)
+  errs-told zero e = absurd (omega (arith, e .some))
+  errs-told (suc zero) e = errors-told Function e
+  errs-told (suc (suc zero)) e = errors-told Address e
+  errs-told (suc (suc (suc zero))) e = errors-told Data e
+  errs-told (suc (suc (suc (suc n)))) e = absurd (omega (arith, e .most))
 
   only-reading : (q : Quantity) → given ≡ Reading q → Outcome request reply r index → Reads request reply r index q
-  only-reading q h (refuses x w) = absurd (let z = ap caseOf (sym (row request reply r index x w) ∙ h) in omega (arith, z))
-  only-reading q h (errors y e) = absurd (let z = ap caseOf (sym (errs request reply r index y e) ∙ h) in omega (arith, z))
+  only-reading q h (refuses x w) = absurd (let z = ap caseIn (sym (refuses-told x w) ∙ ap told h) in omega (arith, z))
+  only-reading q h (errors code e) = absurd (let z = ap caseIn (sym (errors-told code e) ∙ ap told h) in omega (arith, z))
   only-reading q h (tells x e) = subst (λ (c : Quantity). Reads request reply r index c) (ap (quantityIn q) (sym (reading request reply r index x e) ∙ h)) e
 
+  rows : Rows request reply r index
+  rows = record {
+    row-3 = by-number RatioOutOfLimits;
+    row-7 = by-number NotARead;
+    row-8 = by-number ReplyLength;
+    row-9 = by-number ReplyCrc;
+    row-10 = by-number ReplyForeign;
+    row-11 = by-number ReplyMisfit;
+    row-12 = by-number IndexPastItems;
+    row-13 = by-number ValueImpossible;
+    only = λ n h. only n h (outcome request reply r index);
+    error = λ n. (λ h. only-error n h (outcome request reply r index), errs-told n);
+    reading = λ q. (λ h. only-reading q h (outcome request reply r index), reading request reply r index q);
+  }
+
 pub exactly-when : ExactlyWhen
-exactly-when = record {
-  refused = λ request reply r index reason. (λ h. only-row request reply r index reason h (outcome request reply r index), row request reply r index reason);
-  error = λ request reply r index code. (λ h. only-error request reply r index code h (outcome request reply r index), errs request reply r index code);
-  reading = λ request reply r index q. (λ h. only-reading request reply r index q h (outcome request reply r index), reading request reply r index q);
-}
+exactly-when = record { rows = rows }
 
 -- ---- what follows
 
@@ -274,6 +330,6 @@ same-address request reply h =
 
 pub not-misread : NotMisread
 not-misread = record {
-  reading = λ request reply r index q h. let f = exactly-when .reading request reply r index q .0 h .holds .fits in (f .sound .whole, same-address request reply (f .sound .own), fitting request reply (f .fits));
-  error = λ request reply r index code h. let s = exactly-when .error request reply r index code .0 h .sound in (s .whole, same-address request reply (s .own));
+  reading = λ request reply r index q h. let f = rows request reply r index .reading q .0 h .holds .fits in (f .sound .whole, same-address request reply (f .sound .own), fitting request reply (f .fits));
+  error = λ request reply r index code h. let s = rows request reply r index .error (errorNumber code) .0 (ap told h) .sound in (s .whole, same-address request reply (s .own));
 }

@@ -7,17 +7,14 @@ use mathlib.Core.Bool.{Bool, true, false, _||_, not}
 use mathlib.Core.List.{List}
 use lib.Dec.{ltb, eqb}
 use lib.ListN.{length, getD}
-use Rattle.refusal.specs.declared.Refusal.{Refusal}
-use Rattle.refusal.specs.declared.Refusal.the-variants.{MeterOutOfLimits, BufferShort, RatioOutOfLimits, OwnAddressZero, SampleOutOfLimits, EnergyPastTop, NotARead, ReplyLength, ReplyCrc, ReplyForeign, ReplyMisfit, IndexPastItems, ValueImpossible, JoinPastTop}
 use Rattle.refusal.specs.declared.ErrorCode.{ErrorCode}
-use Rattle.refusal.specs.Numbers.{errorNumber}
+use Rattle.refusal.specs.Numbers.{refusedBy, errorBy}
 use Rattle.crc.specs.Crc.{intact}
 use Rattle.words.specs.Words.{valueAt}
 use Rattle.ratio.specs.declared.Ratios.{Ratios}
 use Rattle.ratio.specs.Ratios.{ratiosOk, tOf}
 use Rattle.counts.specs.declared.Count.{Count}
-use Rattle.counts.specs.declared.Joined.the-variants as joined
-use Rattle.counts.specs.Energies.{topCount, topLow, topHigh, joinOf, joinHalvesOf}
+use Rattle.counts.specs.Energies.{topCount, topLow, topHigh, joinOf, joinHalvesOf, joinTold}
 use Rattle.directory.specs.declared.Item.{Item}
 use Rattle.directory.specs.declared.Span.the-variants.{Items}
 use Rattle.directory.specs.Item.{none}
@@ -26,7 +23,8 @@ use Rattle.directory.specs.Run.{runItems}
 use Rattle.modbus.specs.Frame.{addressOf, wordNumber}
 use Rattle.modbus.specs.Read.{readIn}
 use Rattle.reading.specs.declared.Quantity.{Quantity}
-use Rattle.reading.specs.declared.Answer.the-variants.{Reading, Error, Refused}
+use Rattle.reading.specs.declared.Answer.the-variants.{Reading, Error}
+use Rattle.reading.specs.Cases.{told}
 use Rattle.reading.specs.Readings.{readingOf}
 use Rattle.reading.specs.Impossible.{thirteen}
 use Rattle.collector.specs.Collector.{heard, lengthWrong, isReadError, foreign, thirdOf, misfit, placeOf, collectorOf}
@@ -77,6 +75,17 @@ valueIn asks reply index = valueAt (itemAt asks index .words) reply (placeOf (ru
 abbrev pub errorMisfit : List ℕ → Bool
 errorMisfit reply = not (eqb (length reply) 5) || (ltb (thirdOf reply) 1 || ltb 3 (thirdOf reply))
 
+-- 10: address or function of another
+abbrev pub Foreign : List ℕ → List ℕ → Ratios → Type 0
+Foreign request reply r =
+    Asked request r × (lengthWrong reply ≡ false) × (intact reply ≡ true) × (foreign request reply ≡ true)
+
+-- 11: an error reply of another length or code, or data of another byte number or length
+abbrev pub Misfits : List ℕ → List ℕ → Ratios → Type 0
+Misfits request reply r =
+    Sound request reply r ×
+    (((isReadError reply ≡ true) × (errorMisfit reply ≡ true)) ⊎ ((isReadError reply ≡ false) × (misfit request reply ≡ true)))
+
 -- 12: index not below the number of items
 pub record Past (request reply : List ℕ) (r : Ratios) (index : ℕ) : Type 0 where
   pub fits : Fits request reply r
@@ -87,50 +96,50 @@ pub record Impossible (request reply : List ℕ) (r : Ratios) (index : ℕ) : Ty
   pub holds : Holds request reply r index
   pub value : thirteen (itemAt (askedBy (holds .fits)) index) (valueIn (askedBy (holds .fits)) reply index) ≡ true
 
--- the rows of the table, in the paper's reading order: first that applies
-abbrev pub Row : Refusal → List ℕ → List ℕ → Ratios → ℕ → Type 0
-Row RatioOutOfLimits request reply r index = ratiosOk r ≡ false
-Row NotARead request reply r index = (ratiosOk r ≡ true) × (Asks request → ⊥)
-Row ReplyLength request reply r index = Asked request r × (lengthWrong reply ≡ true)
-Row ReplyCrc request reply r index = Asked request r × (lengthWrong reply ≡ false) × (intact reply ≡ false)
-Row ReplyForeign request reply r index = Asked request r × (lengthWrong reply ≡ false) × (intact reply ≡ true) × (foreign request reply ≡ true)
-Row ReplyMisfit request reply r index = Sound request reply r × (((isReadError reply ≡ true) × (errorMisfit reply ≡ true)) ⊎ ((isReadError reply ≡ false) × (misfit request reply ≡ true)))
-Row IndexPastItems request reply r index = Past request reply r index
-Row ValueImpossible request reply r index = Impossible request reply r index
--- these are never given to a reading
-Row MeterOutOfLimits request reply r index = ⊥
-Row BufferShort request reply r index = ⊥
-Row OwnAddressZero request reply r index = ⊥
-Row SampleOutOfLimits request reply r index = ⊥
-Row EnergyPastTop request reply r index = ⊥
-Row JoinPastTop request reply r index = ⊥
-
 -- the meter's error code, given after 11 whatever the index
-pub record Errs (request reply : List ℕ) (r : Ratios) (code : ErrorCode) : Type 0 where
+pub record Errs (request reply : List ℕ) (r : Ratios) (code : ℕ) : Type 0 where
   pub sound : Sound request reply r
   pub error : isReadError reply ≡ true
   pub long : length reply ≡ 5
-  pub says : thirdOf reply ≡ errorNumber code
+  pub says : thirdOf reply ≡ code
+  pub some : 1 ≤ code
+  pub most : code ≤ 3
 
 -- the reading of the item asked
 pub record Reads (request reply : List ℕ) (r : Ratios) (index : ℕ) (q : Quantity) : Type 0 where
   pub holds : Holds request reply r index
   pub reading : readingOf (tOf r) (itemAt (askedBy (holds .fits)) index) (valueIn (askedBy (holds .fits)) reply index) ≡ Reading q
 
+-- an answer in the paper's numbers
+abbrev pub Comes : List ℕ → List ℕ → Ratios → ℕ → List ℕ → Type 0
+Comes request reply r index numbers = told (collectorOf request reply r index) ≡ numbers
+
+-- of one call: the rows of the table by their numbers, in the paper's reading order, first that applies; no other number; the error codes; the readings
+pub record Rows (request reply : List ℕ) (r : Ratios) (index : ℕ) : Type 0 where
+  pub row-3 : Comes request reply r index (refusedBy 3) ↔ (ratiosOk r ≡ false)
+  pub row-7 : Comes request reply r index (refusedBy 7) ↔ ((ratiosOk r ≡ true) × (Asks request → ⊥))
+  pub row-8 : Comes request reply r index (refusedBy 8) ↔ (Asked request r × (lengthWrong reply ≡ true))
+  pub row-9 : Comes request reply r index (refusedBy 9) ↔ (Asked request r × (lengthWrong reply ≡ false) × (intact reply ≡ false))
+  pub row-10 : Comes request reply r index (refusedBy 10) ↔ Foreign request reply r
+  pub row-11 : Comes request reply r index (refusedBy 11) ↔ Misfits request reply r
+  pub row-12 : Comes request reply r index (refusedBy 12) ↔ Past request reply r index
+  pub row-13 : Comes request reply r index (refusedBy 13) ↔ Impossible request reply r index
+  pub only : (n : ℕ) → Comes request reply r index (refusedBy n) → (n ≡ 3) ⊎ ((7 ≤ n) × (n ≤ 13))
+  pub error : (code : ℕ) → Comes request reply r index (errorBy code) ↔ Errs request reply r code
+  pub reading : (q : Quantity) → (collectorOf request reply r index ≡ Reading q) ↔ Reads request reply r index q
+
 -- STATEMENT: each refusal, each error code and each reading is given exactly when its row or rule says
 pub record ExactlyWhen : Type 0 where
-  pub refused : (request reply : List ℕ) (r : Ratios) (index : ℕ) (reason : Refusal) → (collectorOf request reply r index ≡ Refused reason) ↔ Row reason request reply r index
-  pub error : (request reply : List ℕ) (r : Ratios) (index : ℕ) (code : ErrorCode) → (collectorOf request reply r index ≡ Error code) ↔ Errs request reply r code
-  pub reading : (request reply : List ℕ) (r : Ratios) (index : ℕ) (q : Quantity) → (collectorOf request reply r index ≡ Reading q) ↔ Reads request reply r index q
+  pub rows : (request reply : List ℕ) (r : Ratios) (index : ℕ) → Rows request reply r index
 
 -- STATEMENT: nothing is read out of a reply whose CRC is wrong, whose address is another's, or whose words are not as many as were asked
 pub record NotMisread : Type 0 where
   pub reading : (request reply : List ℕ) (r : Ratios) (index : ℕ) (q : Quantity) → collectorOf request reply r index ≡ Reading q → (intact reply ≡ true) × (addressOf reply ≡ addressOf request) × (length reply ≡ 5 + 2 * wordNumber request)
   pub error : (request reply : List ℕ) (r : Ratios) (index : ℕ) (code : ErrorCode) → collectorOf request reply r index ≡ Error code → (intact reply ≡ true) × (addressOf reply ≡ addressOf request)
 
--- STATEMENT: joining: 3 (counts only), then 14, exactly when count, Low or High is over its top
+-- STATEMENT: joining: 3 (counts only), then 14, exactly when count, Low or High is over its top, and no other number
 pub record JoinsWhen : Type 0 where
-  pub three : (r : Ratios) (c : Count) (wrap : ℕ) → (joinOf r c wrap ≡ joined.Refused RatioOutOfLimits) ↔ (ratiosOk r ≡ false)
-  pub fourteen : (r : Ratios) (c : Count) (wrap : ℕ) → (joinOf r c wrap ≡ joined.Refused JoinPastTop) ↔ ((ratiosOk r ≡ true) × (topCount < c .0))
-  pub only : (r : Ratios) (c : Count) (wrap : ℕ) (reason : Refusal) → joinOf r c wrap ≡ joined.Refused reason → (reason ≡ RatioOutOfLimits) ⊎ (reason ≡ JoinPastTop)
-  pub halves : (low high : ℕ) (reason : Refusal) → (joinHalvesOf low high ≡ joined.Refused reason) ↔ ((reason ≡ JoinPastTop) × ((topLow < low) ⊎ (topHigh < high)))
+  pub row-3 : (r : Ratios) (c : Count) (wrap : ℕ) → (joinTold (joinOf r c wrap) ≡ refusedBy 3) ↔ (ratiosOk r ≡ false)
+  pub row-14 : (r : Ratios) (c : Count) (wrap : ℕ) → (joinTold (joinOf r c wrap) ≡ refusedBy 14) ↔ ((ratiosOk r ≡ true) × (topCount < c .0))
+  pub only : (r : Ratios) (c : Count) (wrap n : ℕ) → joinTold (joinOf r c wrap) ≡ refusedBy n → (n ≡ 3) ⊎ (n ≡ 14)
+  pub halves : (low high n : ℕ) → (joinTold (joinHalvesOf low high) ≡ refusedBy n) ↔ ((n ≡ 14) × ((topLow < low) ⊎ (topHigh < high)))

@@ -3,8 +3,10 @@
 use mathlib.Core.Path.{_≡_}
 use Prim.Native.Nat.{ℕ, _+_, _*_, _/_, _%_, _≤_, _<_}
 use mathlib.Core.Bool.{true, _&&_, cond}
+use mathlib.Core.List.{List, [], _∷_}
 use lib.Dec.{leb}
 use Rattle.refusal.specs.declared.Refusal.the-variants.{RatioOutOfLimits, JoinPastTop}
+use Rattle.refusal.specs.Numbers.{refusalNumber, refusedBy}
 use Rattle.ratio.specs.declared.Ratios.{Ratios}
 use Rattle.ratio.specs.Ratios.{ratiosOk, tOf}
 use Rattle.ratio.specs.Steps.{stepOf}
@@ -69,12 +71,10 @@ joinHalvesOf low high =
     (Energy (record { 0 = high * 1000000 + low }))
     (Refused JoinPastTop)
 
--- STATEMENT: for every energy up to the top, register, wrap, Low and High fit their words and are never refused in a join
-pub record CountsFit : Type 0 where
-  pub register : (t : ℕ) (e : WattHours) → registerOf t e .0 ≤ topCount
-  pub wrap : (t : ℕ) (e : WattHours) → e .0 ≤ topWh → wrapOf t e < 65536
-  pub low : (e : WattHours) → lowOf e ≤ topLow
-  pub high : (e : WattHours) → e .0 ≤ topWh → highOf e ≤ topHigh
+-- a join in numbers: 0 and the Wh; the number of the refusal
+abbrev pub joinTold : Joined → List ℕ
+joinTold (Energy wh) = 0 ∷ wh .0 ∷ []
+joinTold (Refused reason) = refusedBy (refusalNumber reason)
 
 -- an energy rounded down to the step
 abbrev pub roundedOf : ℕ → WattHours → WattHours

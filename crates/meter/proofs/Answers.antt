@@ -1,14 +1,15 @@
 -- The answers of a new meter and of a sample as picks by tests; and what is within limits stays so.
 use mathlib.Core.Path.{_≡_, refl, sym, ap, _∙_}
-use mathlib.Core.Logic.{_↔_}
+use mathlib.Core.Logic.{_↔_, _⊎_, inl, inr, Iff·trans}
 use mathlib.Core.Bool.{Bool, true, false, _&&_, cond, and-true, not, false≢true, and-eq-true-iff}
 use mathlib.Core.List.{List}
 use Prim.Native.Nat.{ℕ, _+_, _%_, zero, suc, zero-le}
 use native.Mathlib.Omega.{arith}
 use lib.Dec.{leb, eqb}
-use borrow.Author.Tests.{le-leb, ne-eqb}
+use borrow.Author.Tests.{le-leb, ne-eqb, eqb-false, not-true}
 use Rattle.refusal.specs.declared.Refusal.{Refusal}
 use Rattle.refusal.specs.declared.Refusal.the-variants.{MeterOutOfLimits, RatioOutOfLimits, OwnAddressZero, SampleOutOfLimits, EnergyPastTop}
+use Rattle.refusal.specs.Numbers.{refusedBy}
 use Rattle.signed.specs.declared.Signed.{Signed}
 use Rattle.signed.specs.Signs.{aboveOf, belowOf}
 use Rattle.ratio.specs.declared.Ratios.{Ratios}
@@ -26,10 +27,10 @@ use Rattle.meter.specs.Samples.{threeOf, sampleOk, noSample}
 use Rattle.meter.specs.Energies.{energyOk, energiesOk, plusOf, withPower, withinTop}
 use Rattle.meter.specs.Meters.{meterT, setupWithin, meterOk, blankOf, refusedOf, acceptedOf, newOf, withSetup}
 use Rattle.meter.specs.After.{nextOf, meterWithinTop, afterOf}
-use Rattle.meter.specs.Answers.{NewAnswers, SampleAnswers, StaysWithin, SetupIdle}
+use Rattle.meter.specs.Answers.{answerTold, NewAnswers, SampleAnswers, SetupIdle}
 use Rattle.meter.proofs.Parts.{meter-parts}
 use Rattle.meter.proofs.Cases.{chosen, after-accepted}
-use Rattle.meter.proofs.Outcomes.{firstOf, first-fails, second-fails, third-fails, none-fails, not-accepted}
+use Rattle.meter.proofs.Outcomes.{by-number, firstOf, first-fails, second-fails, third-fails, none-fails, only-these, not-accepted}
 
 -- ---- a sample
 
@@ -58,11 +59,20 @@ refused m s = unchanged (meterOk m) (sampleOk (meterT m) s) (meterWithinTop (nex
 accepted : (m : Meter) (s : Sample) → (afterOf m s .answer ≡ Accepted) ↔ ((meterOk m ≡ true) × (sampleOk (meterT m) s ≡ true) × (meterWithinTop (nextOf m s) ≡ true))
 accepted m s = rw (answer m s) (none-fails _ _ _ (meterOk m) (sampleOk (meterT m) s) (meterWithinTop (nextOf m s)))
 
+sample-only : (m : Meter) (s : Sample) (n : ℕ) → answerTold (afterOf m s .answer) ≡ refusedBy n → (n ≡ 1) ⊎ (n ≡ 5) ⊎ (n ≡ 6)
+sample-only m s n h = by (only-these _ _ _ (meterOk m) (sampleOk (meterT m) s) (meterWithinTop (nextOf m s)) n (rw (answer m s) at h))
+  where
+    by : {c : Bool} → (n ≡ 1) ⊎ (n ≡ 5) ⊎ ((c ≡ false) × (n ≡ 6)) → (n ≡ 1) ⊎ (n ≡ 5) ⊎ (n ≡ 6)
+    by (inl e) = inl e
+    by (inr (inl e)) = inr (inl e)
+    by (inr (inr e)) = inr (inr (e .1))
+
 pub sample-answers : SampleAnswers
 sample-answers = record {
-  one = λ m s. rw (answer m s) (first-fails _ _ _ refl refl refl (meterOk m) (sampleOk (meterT m) s) (meterWithinTop (nextOf m s)));
-  five = λ m s. rw (answer m s) (second-fails _ _ _ refl refl refl (meterOk m) (sampleOk (meterT m) s) (meterWithinTop (nextOf m s)));
-  six = λ m s. rw (answer m s) (third-fails _ _ _ refl refl refl (meterOk m) (sampleOk (meterT m) s) (meterWithinTop (nextOf m s)));
+  row-1 = λ m s. by-number (afterOf m s .answer) MeterOutOfLimits (rw (answer m s) (first-fails _ _ _ refl refl refl (meterOk m) (sampleOk (meterT m) s) (meterWithinTop (nextOf m s))));
+  row-5 = λ m s. by-number (afterOf m s .answer) SampleOutOfLimits (rw (answer m s) (second-fails _ _ _ refl refl refl (meterOk m) (sampleOk (meterT m) s) (meterWithinTop (nextOf m s))));
+  row-6 = λ m s. by-number (afterOf m s .answer) EnergyPastTop (rw (answer m s) (third-fails _ _ _ refl refl refl (meterOk m) (sampleOk (meterT m) s) (meterWithinTop (nextOf m s))));
+  only = sample-only;
   accepted = accepted;
   refused = refused;
   counted = λ m s h. let t = accepted m s .0 h in ap (λ (r : Answered). r .meter) (after-accepted m s (t .0) (t .1) (t .2));
@@ -92,12 +102,10 @@ kept true true false m n h k = h
 kept true false c m n h k = h
 kept false b c m n h k = h
 
-sample : (m : Meter) (s : Sample) → meterOk m ≡ true → meterOk (afterOf m s .meter) ≡ true
+-- a sample keeps a record within limits
+pub sample-within : (m : Meter) (s : Sample) → meterOk m ≡ true → meterOk (afterOf m s .meter) ≡ true
 unfolding afterOf
-sample m s h = kept (meterOk m) (sampleOk (meterT m) s) (meterWithinTop (nextOf m s)) m (nextOf m s) h (next-within m s)
-
-pub stays-within : StaysWithin
-stays-within = record { sample = sample }
+sample-within m s h = kept (meterOk m) (sampleOk (meterT m) s) (meterWithinTop (nextOf m s)) m (nextOf m s) h (next-within m s)
 
 -- ---- a new meter
 
@@ -146,20 +154,40 @@ four a r =
     let f = second-fails _ _ _ refl refl refl (ratiosOk r) (not (eqb a 0)) true in
     rw (new-answer a r) (λ h. (f .0 h .0, zero-is a .0 (f .0 h .1)), λ h. f .1 (h .0, zero-is a .1 (h .1)))
 
-new-accepted : (a : ℕ) (r : Ratios) → (newOf a r .answer ≡ Accepted) ↔ (meterOk (newOf a r .meter) ≡ true)
-new-accepted a r =
-    let f = none-fails RatioOutOfLimits OwnAddressZero EnergyPastTop (ratiosOk r) (not (eqb a 0)) true in
+new-only : (a : ℕ) (r : Ratios) (n : ℕ) → answerTold (newOf a r .answer) ≡ refusedBy n → (n ≡ 3) ⊎ (n ≡ 4)
+new-only a r n h = by (only-these _ _ _ (ratiosOk r) (not (eqb a 0)) true n (rw (new-answer a r) at h))
+  where
+    by : (n ≡ 3) ⊎ (n ≡ 4) ⊎ ((true ≡ false) × (n ≡ 6)) → (n ≡ 3) ⊎ (n ≡ 4)
+    by (inl e) = inl e
+    by (inr (inl e)) = inr e
+    by (inr (inr e)) = absurd (false≢true (sym (e .0)))
+
+-- no test fails
+new-made : (a : ℕ) (r : Ratios) → (newOf a r .answer ≡ Accepted) ↔ ((ratiosOk r ≡ true) × (not (eqb a 0) ≡ true) × (true ≡ true))
+new-made a r = rw (new-answer a r) (none-fails RatioOutOfLimits OwnAddressZero EnergyPastTop (ratiosOk r) (not (eqb a 0)) true)
+
+new-accepted : (a : ℕ) (r : Ratios) → (newOf a r .answer ≡ Accepted) ↔ ((ratiosOk r ≡ true) × (a ≡ 0 → ⊥))
+new-accepted a r = (
+  λ h. let t = new-made a r .0 h in (t .0, eqb-false a 0 (not-true _ (t .1))),
+  λ h. new-made a r .1 (h .0, ap not (ne-eqb a 0 (h .1)), refl),
+)
+
+new-within : (a : ℕ) (r : Ratios) → (newOf a r .answer ≡ Accepted) ↔ (meterOk (newOf a r .meter) ≡ true)
+new-within a r =
     let within = ap meterOk (new-blank a r) ∙ blank-within a r in
-    rw (new-answer a r, within) (
-      λ h. let t = f .0 h in (λ i. (sym (zero-no a) ∙ t .1) i && t .0 i),
-      λ h. let t = and-eq-true-iff (leb 1 a) (ratiosOk r) .0 h in f .1 (t .1, zero-no a ∙ t .0, refl),
+    rw within (
+      λ h. let t = new-made a r .0 h in (λ i. (sym (zero-no a) ∙ t .1) i && t .0 i),
+      λ h. let t = and-eq-true-iff (leb 1 a) (ratiosOk r) .0 h in new-made a r .1 (t .1, zero-no a ∙ t .0, refl),
     )
 
 pub new-answers : NewAnswers
 new-answers = record {
-  three = λ a r. rw (new-answer a r) (first-fails _ _ _ refl refl refl (ratiosOk r) (not (eqb a 0)) true);
-  four = four;
+  row-3 = λ a r. by-number (newOf a r .answer) RatioOutOfLimits (rw (new-answer a r) (first-fails _ _ _ refl refl refl (ratiosOk r) (not (eqb a 0)) true));
+  row-4 = λ a r. by-number (newOf a r .answer) OwnAddressZero (four a r);
+  only = new-only;
   accepted = new-accepted;
+  blank = new-blank;
+  within = new-within;
 }
 
 -- ---- setup words have no effect

@@ -1,14 +1,33 @@
 -- An answer by tests, the first that fails giving its reason: each reason is given just where its test is the first to fail.
 use mathlib.Core.Path.{_≡_, refl, sym, ap}
-use mathlib.Core.Logic.{_↔_}
+use mathlib.Core.Logic.{_↔_, _⊎_, inl, inr, Iff·trans}
 use mathlib.Core.Bool.{Bool, true, false, false≢true}
+use Prim.Native.Nat.{ℕ}
+use native.Mathlib.Omega.{arith}
 use lib.Dec.{eqb}
 use borrow.Author.Tests.{eqb-false}
 use Rattle.refusal.specs.declared.Refusal.{Refusal}
-use Rattle.refusal.specs.Numbers.{refusalNumber}
+use Rattle.refusal.specs.Numbers.{refusalNumber, refusedBy}
+use Rattle.refusal.proofs.Distinct.{one-reason-each, caseIn, numberIn}
 use Rattle.meter.specs.declared.Answer.{Answer}
 use Rattle.meter.specs.declared.Answer.the-variants.{Accepted, Refused}
 use Rattle.meter.specs.Carried.{isAccepted}
+use Rattle.meter.specs.Answers.{answerTold}
+
+-- ---- by numbers
+
+-- the numbers of an answer give it back
+pub answer-back : (a b : Answer) → answerTold a ≡ answerTold b → a ≡ b
+answer-back Accepted Accepted e = refl
+answer-back Accepted (Refused r) e = absurd (omega (arith, ap caseIn e))
+answer-back (Refused r) Accepted e = absurd (omega (arith, ap caseIn e))
+answer-back (Refused r) (Refused s) e = ap Refused (one-reason-each .refusals r s (ap numberIn e))
+
+-- so a refusal is known by its number
+pub by-number : {A : Type 0} (a : Answer) (reason : Refusal) → (a ≡ Refused reason) ↔ A → (answerTold a ≡ refusedBy (refusalNumber reason)) ↔ A
+by-number a reason row = Iff·trans (answer-back a (Refused reason), λ e. ap answerTold e) row
+
+-- ---- by tests
 
 abbrev pub firstOf : Refusal → Refusal → Refusal → Bool → Bool → Bool → Answer
 firstOf x y z true true true = Accepted
@@ -53,3 +72,10 @@ none-fails x y z true true true = (λ h. (refl, refl, refl), λ h. refl)
 none-fails x y z true true false = (λ h. not-accepted h, λ h. absurd (false≢true (h .2)))
 none-fails x y z true false c = (λ h. not-accepted h, λ h. absurd (false≢true (h .1)))
 none-fails x y z false b c = (λ h. not-accepted h, λ h. absurd (false≢true (h .0)))
+
+-- and no other number is given
+pub only-these : (x y z : Refusal) (a b c : Bool) (n : ℕ) → answerTold (firstOf x y z a b c) ≡ refusedBy n → (n ≡ refusalNumber x) ⊎ (n ≡ refusalNumber y) ⊎ ((c ≡ false) × (n ≡ refusalNumber z))
+only-these x y z true true true n h = absurd (omega (arith, ap caseIn h))
+only-these x y z true true false n h = inr (inr (refl, sym (ap numberIn h)))
+only-these x y z true false c n h = inr (inl (sym (ap numberIn h)))
+only-these x y z false b c n h = inl (sym (ap numberIn h))

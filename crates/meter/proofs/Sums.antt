@@ -9,9 +9,9 @@ use Rattle.meter.specs.declared.samples.Sample.{Sample}
 use Rattle.meter.specs.declared.Meter.{Meter}
 use Rattle.meter.specs.Samples.{sampleOk}
 use Rattle.meter.specs.Energies.{plusOf, valueOf}
-use Rattle.meter.specs.Meters.{meterT, meterOk, blankOf, energyAt}
+use Rattle.meter.specs.Meters.{meterT, meterOk, blankOf, newOf, energyAt}
 use Rattle.meter.specs.After.{nextOf, meterWithinTop, afterOf}
-use Rattle.meter.specs.Carried.{carriesFor, isAccepted, addedBy, EnergyIsSum}
+use Rattle.meter.specs.Carried.{carriesFor, isAccepted, addedBy}
 use Rattle.meter.proofs.Cases.{chosen}
 use Rattle.meter.proofs.Answers.{new-blank}
 
@@ -34,7 +34,8 @@ picked-adds true true false e m s = omega arith
 picked-adds true false c e m s = omega arith
 picked-adds false b c e m s = omega arith
 
-after-adds : (e : ℕ) (m : Meter) (s : Sample) → valueOf (energyAt e (afterOf m s .meter)) ≡ valueOf (energyAt e m) + addedBy e m s
+-- an energy grows by just what an accepted sample carries for it
+pub after-adds : (e : ℕ) (m : Meter) (s : Sample) → valueOf (energyAt e (afterOf m s .meter)) ≡ valueOf (energyAt e m) + addedBy e m s
 unfolding afterOf
 after-adds e m s = picked-adds (meterOk m) (sampleOk (meterT m) s) (meterWithinTop (nextOf m s)) e m s
 
@@ -45,8 +46,6 @@ blank-zero (suc (suc zero)) a r = refl
 blank-zero (suc (suc (suc zero))) a r = refl
 blank-zero (suc (suc (suc (suc e)))) a r = refl
 
-pub energy-is-sum : EnergyIsSum
-energy-is-sum = record {
-  starts = λ e a r. ap (λ (m : Meter). valueOf (energyAt e m)) (new-blank a r) ∙ blank-zero e a r;
-  grows = after-adds;
-}
+-- and is 0 in a new meter
+pub new-zero : (e a : ℕ) (r : Ratios) → valueOf (energyAt e (newOf a r .meter)) ≡ 0
+new-zero e a r = ap (λ (m : Meter). valueOf (energyAt e m)) (new-blank a r) ∙ blank-zero e a r

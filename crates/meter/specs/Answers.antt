@@ -1,38 +1,45 @@
 -- Paper 01, "Refusal numbers": 3 and 4 of a new meter; 1, 5 and 6 of a sample; given exactly when their rows say.
 use mathlib.Core.Path.{_≡_}
-use mathlib.Core.Logic.{_↔_}
+use mathlib.Core.Logic.{_↔_, _⊎_}
 use Prim.Native.Nat.{ℕ}
 use mathlib.Core.Bool.{true, false}
-use mathlib.Core.List.{List}
+use mathlib.Core.List.{List, [], _∷_}
 use Rattle.refusal.specs.declared.Refusal.{Refusal}
-use Rattle.refusal.specs.declared.Refusal.the-variants.{MeterOutOfLimits, RatioOutOfLimits, OwnAddressZero, SampleOutOfLimits, EnergyPastTop}
+use Rattle.refusal.specs.Numbers.{refusalNumber, refusedBy}
 use Rattle.ratio.specs.declared.Ratios.{Ratios}
 use Rattle.ratio.specs.Ratios.{ratiosOk}
 use Rattle.meter.specs.declared.samples.Sample.{Sample}
+use Rattle.meter.specs.declared.Answer.{Answer}
 use Rattle.meter.specs.declared.Answer.the-variants.{Accepted, Refused}
 use Rattle.meter.specs.declared.Meter.{Meter}
 use Rattle.meter.specs.Samples.{sampleOk}
-use Rattle.meter.specs.Meters.{meterT, setupWithin, meterOk, withSetup, newOf}
+use Rattle.meter.specs.Meters.{meterT, setupWithin, meterOk, blankOf, withSetup, newOf}
 use Rattle.meter.specs.After.{nextOf, meterWithinTop, afterOf}
 
--- STATEMENT: a new meter is refused with 3 and with 4 exactly when, and accepted exactly when its record is within limits
-pub record NewAnswers : Type 0 where
-  pub three : (a : ℕ) (r : Ratios) → (newOf a r .answer ≡ Refused RatioOutOfLimits) ↔ (ratiosOk r ≡ false)
-  pub four : (a : ℕ) (r : Ratios) → (newOf a r .answer ≡ Refused OwnAddressZero) ↔ ((ratiosOk r ≡ true) × (a ≡ 0))
-  pub accepted : (a : ℕ) (r : Ratios) → (newOf a r .answer ≡ Accepted) ↔ (meterOk (newOf a r .meter) ≡ true)
+-- an answer in numbers: 0 for accepted; the number of the refusal
+abbrev pub answerTold : Answer → List ℕ
+answerTold Accepted = 0 ∷ []
+answerTold (Refused reason) = refusedBy (refusalNumber reason)
 
--- STATEMENT: a sample is refused with 1, 5 and 6, and accepted, exactly when; a refusal changes nothing
+-- STATEMENT: a new meter is refused with 3 and with 4 exactly when, with no other number, and else accepted; the meter handed back is the blank
+-- one of that address and those ratios, and within limits exactly when it is accepted
+pub record NewAnswers : Type 0 where
+  pub row-3 : (a : ℕ) (r : Ratios) → (answerTold (newOf a r .answer) ≡ refusedBy 3) ↔ (ratiosOk r ≡ false)
+  pub row-4 : (a : ℕ) (r : Ratios) → (answerTold (newOf a r .answer) ≡ refusedBy 4) ↔ ((ratiosOk r ≡ true) × (a ≡ 0))
+  pub only : (a : ℕ) (r : Ratios) (n : ℕ) → answerTold (newOf a r .answer) ≡ refusedBy n → (n ≡ 3) ⊎ (n ≡ 4)
+  pub accepted : (a : ℕ) (r : Ratios) → (newOf a r .answer ≡ Accepted) ↔ ((ratiosOk r ≡ true) × (a ≡ 0 → ⊥))
+  pub blank : (a : ℕ) (r : Ratios) → newOf a r .meter ≡ blankOf a r
+  pub within : (a : ℕ) (r : Ratios) → (newOf a r .answer ≡ Accepted) ↔ (meterOk (newOf a r .meter) ≡ true)
+
+-- STATEMENT: a sample is refused with 1, 5 and 6 exactly when, with no other number, and else accepted; a refusal changes nothing
 pub record SampleAnswers : Type 0 where
-  pub one : (m : Meter) (s : Sample) → (afterOf m s .answer ≡ Refused MeterOutOfLimits) ↔ (meterOk m ≡ false)
-  pub five : (m : Meter) (s : Sample) → (afterOf m s .answer ≡ Refused SampleOutOfLimits) ↔ ((meterOk m ≡ true) × (sampleOk (meterT m) s ≡ false))
-  pub six : (m : Meter) (s : Sample) → (afterOf m s .answer ≡ Refused EnergyPastTop) ↔ ((meterOk m ≡ true) × (sampleOk (meterT m) s ≡ true) × (meterWithinTop (nextOf m s) ≡ false))
+  pub row-1 : (m : Meter) (s : Sample) → (answerTold (afterOf m s .answer) ≡ refusedBy 1) ↔ (meterOk m ≡ false)
+  pub row-5 : (m : Meter) (s : Sample) → (answerTold (afterOf m s .answer) ≡ refusedBy 5) ↔ ((meterOk m ≡ true) × (sampleOk (meterT m) s ≡ false))
+  pub row-6 : (m : Meter) (s : Sample) → (answerTold (afterOf m s .answer) ≡ refusedBy 6) ↔ ((meterOk m ≡ true) × (sampleOk (meterT m) s ≡ true) × (meterWithinTop (nextOf m s) ≡ false))
+  pub only : (m : Meter) (s : Sample) (n : ℕ) → answerTold (afterOf m s .answer) ≡ refusedBy n → (n ≡ 1) ⊎ (n ≡ 5) ⊎ (n ≡ 6)
   pub accepted : (m : Meter) (s : Sample) → (afterOf m s .answer ≡ Accepted) ↔ ((meterOk m ≡ true) × (sampleOk (meterT m) s ≡ true) × (meterWithinTop (nextOf m s) ≡ true))
   pub refused : (m : Meter) (s : Sample) (reason : Refusal) → afterOf m s .answer ≡ Refused reason → afterOf m s .meter ≡ m
   pub counted : (m : Meter) (s : Sample) → afterOf m s .answer ≡ Accepted → afterOf m s .meter ≡ nextOf m s
-
--- STATEMENT: a sample keeps a record within limits
-pub record StaysWithin : Type 0 where
-  pub sample : (m : Meter) (s : Sample) → meterOk m ≡ true → meterOk (afterOf m s .meter) ≡ true
 
 -- STATEMENT: setup words are kept and have no effect on a sample: with others in range, answer and measurements are the same
 pub record SetupIdle : Type 0 where

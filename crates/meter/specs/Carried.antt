@@ -1,18 +1,14 @@
 -- Paper 01, "The meter's record" and demand 3: what each sample adds to the four energies.
-use mathlib.Core.Path.{_≡_}
-use Prim.Native.Nat.{ℕ, _+_}
+use Prim.Native.Nat.{ℕ}
 use mathlib.Core.Bool.{Bool, true, false, cond}
 use mathlib.Core.List.{List, [], _∷_}
 use lib.ListN.{getD}
 use Rattle.signed.specs.Signs.{aboveOf, belowOf}
-use Rattle.ratio.specs.declared.Ratios.{Ratios}
 use Rattle.meter.specs.declared.samples.Sample.{Sample}
 use Rattle.meter.specs.declared.Answer.{Answer}
 use Rattle.meter.specs.declared.Answer.the-variants.{Accepted, Refused}
 use Rattle.meter.specs.declared.Meter.{Meter}
 use Rattle.meter.specs.Samples.{threeOf}
-use Rattle.meter.specs.Energies.{valueOf}
-use Rattle.meter.specs.Meters.{energyAt, newOf}
 use Rattle.meter.specs.After.{afterOf}
 
 -- what a sample carries for each of them, in hundredths of a watt-second
@@ -31,8 +27,3 @@ isAccepted (Refused reason) = false
 -- what a sample adds to it: what it carries, where it is accepted
 abbrev pub addedBy : ℕ → Meter → Sample → ℕ
 addedBy e m s = cond (isAccepted (afterOf m s .answer)) (carriesFor e s) 0
-
--- STATEMENT: of each energy, Wh × 360,000 + remainder is 0 in a new meter, and grows by just what each accepted sample carries for it
-pub record EnergyIsSum : Type 0 where
-  pub starts : (e address : ℕ) (ratios : Ratios) → valueOf (energyAt e (newOf address ratios .meter)) ≡ 0
-  pub grows : (e : ℕ) (m : Meter) (s : Sample) → valueOf (energyAt e (afterOf m s .meter)) ≡ valueOf (energyAt e m) + addedBy e m s

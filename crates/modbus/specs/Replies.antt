@@ -8,8 +8,12 @@ use Rattle.crc.specs.Crc.{sealed}
 use Rattle.modbus.specs.Frame.{addressOf, functionOf, wordNumber}
 
 -- an error reply is address, function + 0x80, code, CRC
+abbrev pub errorBytes : List ℕ → ℕ → List ℕ
+errorBytes frame code = sealed (addressOf frame ∷ (functionOf frame + 0x80) ∷ code ∷ [])
+
+-- its code is the number of what is wrong
 abbrev pub errorReply : List ℕ → ErrorCode → List ℕ
-errorReply frame code = sealed (addressOf frame ∷ (functionOf frame + 0x80) ∷ errorNumber code ∷ [])
+errorReply frame code = errorBytes frame (errorNumber code)
 
 -- address, function, start and word number, a frame's first six bytes, are echoed
 abbrev pub echoReply : List ℕ → List ℕ

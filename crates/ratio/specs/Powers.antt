@@ -1,7 +1,7 @@
 -- Paper 01, "Steps of the registers", Powers; the power limit of "The meter's record"; the power factor of "The
 -- directory". A power is a magnitude in hundredths of W, var or VA, a factor one in thousandths, each with a flag where
 -- it is negative.
-use Prim.Native.Nat.{ℕ, _/_, _^_, _≤_, _<_}
+use Prim.Native.Nat.{ℕ, _/_}
 use mathlib.Core.Bool.{Bool, cond}
 use lib.Dec.{ltb}
 use Rattle.words.specs.Signed.{twos}
@@ -37,14 +37,3 @@ factorHundredths negative thousandths = twos 1 negative (thousandths / 10)
 -- power factor in thousandths
 abbrev pub factorThousandths : Bool → ℕ → ℕ
 factorThousandths negative thousandths = twos 2 negative thousandths
-
--- STATEMENT: what callers may know of the unit and the limit
-pub record PowerLaws : Type 0 where
-  pub some : (t : ℕ) → 1 ≤ powerUnit t
-  pub most : (t : ℕ) → powerUnit t ≤ 100
-  pub limit : (t : ℕ) → powerLimit t ≤ topPower
-
--- STATEMENT: what is within the limit fits its register, and in whole units also a signed L
-pub record PowersFit : Type 0 where
-  pub register : (t x : ℕ) → x ≤ powerLimit t → powerRegister t x < 65536 ^ 2
-  pub signed : (t x : ℕ) → x ≤ powerLimit t → x / 100 < 2 ^ 31

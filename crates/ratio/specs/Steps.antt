@@ -1,5 +1,5 @@
 -- Paper 01, "Steps of the registers", Energies: the energy step.
-use Prim.Native.Nat.{ℕ, _≤_}
+use Prim.Native.Nat.{ℕ}
 use mathlib.Core.Bool.{cond}
 use lib.Dec.{ltb}
 
@@ -11,8 +11,3 @@ stepOf t =
     (cond (ltb t 10000) 1000
     (cond (ltb t 100000) 10000
     100000)))
-
--- STATEMENT: what callers may know of the step
-pub record StepLaws : Type 0 where
-  pub least : (t : ℕ) → 10 ≤ stepOf t
-  pub most : (t : ℕ) → stepOf t ≤ 100000

@@ -6,7 +6,7 @@ use Prim.Native.Nat.{ℕ}
 use native.Mathlib.Omega.{arith}
 use lib.Dec.{eqb}
 use lib.ListN.{getD, drop}
-use Rattle.refusal.proofs.Distinct.{one-reason-each}
+use Rattle.refusal.proofs.Distinct.{one-reason-each, caseIn, numberIn}
 use Rattle.signed.specs.declared.Signed.{Signed}
 use Rattle.reading.specs.declared.Quantity.{Quantity}
 use Rattle.reading.specs.declared.Quantity.the-variants.{Voltage, Current, Power, SignedPower, Energy, Low, High, Wrap, Factor, Sign, Sector, Frequency, Kta, Ktv, Sequence, Plain}
@@ -48,13 +48,6 @@ read-back (Kta v) = refl
 read-back (Ktv v) = refl
 read-back (Sequence v) = refl
 read-back (Plain v) = refl
-
--- the case of an answer, and the number behind it
-abbrev pub caseIn : List ℕ → ℕ
-caseIn l = getD l 0 0
-
-abbrev pub numberIn : List ℕ → ℕ
-numberIn l = getD l 1 0
 
 -- two cases of other numbers
 pub apart : {A : Type 0} (a b : Answer) {i j : ℕ} → caseIn (told a) ≡ i → caseIn (told b) ≡ j → (i ≡ j → ⊥) → told a ≡ told b → A

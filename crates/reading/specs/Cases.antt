@@ -3,7 +3,7 @@
 use mathlib.Core.Path.{_≡_}
 use Prim.Native.Nat.{ℕ}
 use mathlib.Core.List.{List, [], _∷_}
-use Rattle.refusal.specs.Numbers.{refusalNumber, errorNumber}
+use Rattle.refusal.specs.Numbers.{refusalNumber, errorNumber, refusedBy, errorBy}
 use Rattle.signed.specs.declared.Signed.{Signed}
 use Rattle.ratio.specs.Powers.{signWord}
 use Rattle.reading.specs.declared.Quantity.{Quantity}
@@ -53,11 +53,11 @@ valuesOf (Ktv v) = v ∷ []
 valuesOf (Sequence v) = v ∷ []
 valuesOf (Plain v) = v ∷ []
 
--- an answer in numbers: 0 and the reading's number and values; 1 and the meter's error code; 2 and the number of the refusal
+-- an answer in numbers: 0 and the reading's number and values; the meter's error code; the number of the refusal
 abbrev pub told : Answer → List ℕ
 told (Reading q) = 0 ∷ kindOf q ∷ valuesOf q
-told (Error code) = 1 ∷ errorNumber code ∷ []
-told (Refused reason) = 2 ∷ refusalNumber reason ∷ []
+told (Error code) = errorBy (errorNumber code)
+told (Refused reason) = refusedBy (refusalNumber reason)
 
 -- STATEMENT: these numbers name one answer, so a promise of them is a promise of the answer
 pub record OneAnswerEach : Type 0 where

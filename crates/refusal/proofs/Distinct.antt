@@ -1,6 +1,6 @@
 -- The table's rows in order give each reason back from its number, so two reasons of one number are the same.
 use mathlib.Core.Path.{_≡_, refl, sym, ap, _∙_}
-use mathlib.Core.List.{[], _∷_}
+use mathlib.Core.List.{List, [], _∷_}
 use Prim.Native.Nat.{ℕ, _-_}
 use lib.ListN.{getD}
 use Rattle.refusal.specs.declared.Refusal.{Refusal}
@@ -41,3 +41,12 @@ one-reason-each = record {
   refusals = λ a b e. sym (reason-back a) ∙ ap reasonOf e ∙ reason-back b;
   errors = λ a b e. sym (code-back a) ∙ ap codeOf e ∙ code-back b;
 }
+
+-- ---- answers in numbers
+
+-- the case of an answer, and the number behind it
+abbrev pub caseIn : List ℕ → ℕ
+caseIn l = getD l 0 0
+
+abbrev pub numberIn : List ℕ → ℕ
+numberIn l = getD l 1 0

@@ -1,6 +1,7 @@
 -- Paper 01, "Refusal numbers", row by row, and the error codes of documents 000, 001, 003 and 004 ("Error codes").
 use mathlib.Core.Path.{_≡_}
 use Prim.Native.Nat.{ℕ}
+use mathlib.Core.List.{List, [], _∷_}
 use Rattle.refusal.specs.declared.Refusal.{Refusal}
 use Rattle.refusal.specs.declared.Refusal.the-variants.{MeterOutOfLimits, BufferShort, RatioOutOfLimits, OwnAddressZero, SampleOutOfLimits, EnergyPastTop, NotARead, ReplyLength, ReplyCrc, ReplyForeign, ReplyMisfit, IndexPastItems, ValueImpossible, JoinPastTop}
 use Rattle.refusal.specs.declared.ErrorCode.{ErrorCode}
@@ -28,6 +29,14 @@ abbrev pub errorNumber : ErrorCode → ℕ
 errorNumber Function = 1
 errorNumber Address = 2
 errorNumber Data = 3
+
+-- An answer in numbers begins with 0, 1 or 2. A refusal, whatever call gives it: 2 and its number
+abbrev pub refusedBy : ℕ → List ℕ
+refusedBy n = 2 ∷ n ∷ []
+
+-- the meter's error code, where an answer hands it on: 1 and the code
+abbrev pub errorBy : ℕ → List ℕ
+errorBy code = 1 ∷ code ∷ []
 
 -- STATEMENT: a number names one reason, so a promise of a number is a promise of the answer
 pub record OneReasonEach : Type 0 where

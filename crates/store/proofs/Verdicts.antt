@@ -18,7 +18,7 @@ use Rattle.meter.specs.Meters.{meterOk, withSetup}
 use Rattle.meter.proofs.Parts.{meter-parts}
 use Rattle.meter.proofs.Answers.{other-within}
 use Rattle.store.specs.declared.Written.{Written}
-use Rattle.store.specs.Writes.{toStandard, toOutput, groupWords, storedOf, wrongOf, writtenOf, toGroup, fits, WriteWhen, WriteWithin}
+use Rattle.store.specs.Writes.{toStandard, toOutput, groupWords, storedOf, wrongOf, writtenOf, toGroup, fits, WriteWhen}
 
 -- what the tests lead to: a shaped, p to a group, n its words, g its values; m is the meter, k the meter with it stored
 abbrev judged : Bool → Bool → Bool → Bool → Meter → Meter → Written
@@ -141,5 +141,6 @@ by-verdict m frame h Good e =
     let l = write-when .legal m frame .0 e in
     ap meterOk (write-when .stored m frame e) ∙ stored-within m frame h (l .1) (l .2) (toStandard frame) refl
 
-pub write-within : WriteWithin
-write-within = record { write = λ m frame h. by-verdict m frame h (writtenOf m frame .verdict) refl }
+-- a write keeps a record within limits
+pub write-within : (m : Meter) (frame : List ℕ) → meterOk m ≡ true → meterOk (writtenOf m frame .meter) ≡ true
+write-within m frame h = by-verdict m frame h (writtenOf m frame .verdict) refl

@@ -13,7 +13,7 @@ use Rattle.modbus.specs.declared.Verdict.the-variants.{Good, Wrong}
 use Rattle.modbus.specs.Frame.{startOf, wordNumber, valuesOf, writeShaped}
 use Rattle.modbus.specs.Replies.{errorReply, echoReply}
 use Rattle.meter.specs.declared.Meter.{Meter}
-use Rattle.meter.specs.Meters.{meterOk, withSetup}
+use Rattle.meter.specs.Meters.{withSetup}
 use Rattle.store.specs.declared.Written.{Written}
 
 -- the group of 16 words (0x2000)
@@ -74,7 +74,3 @@ pub record WriteWhen : Type 0 where
   pub never : (m : Meter) (frame : List ℕ) → writtenOf m frame .verdict ≡ Wrong Function → ⊥
   pub kept : (m : Meter) (frame : List ℕ) (code : ErrorCode) → writtenOf m frame .verdict ≡ Wrong code → writtenOf m frame .meter ≡ m
   pub stored : (m : Meter) (frame : List ℕ) → writtenOf m frame .verdict ≡ Good → writtenOf m frame .meter ≡ storedOf m frame
-
--- STATEMENT: a write keeps a record within limits
-pub record WriteWithin : Type 0 where
-  pub write : (m : Meter) (frame : List ℕ) → meterOk m ≡ true → meterOk (writtenOf m frame .meter) ≡ true

@@ -7,7 +7,7 @@ use borrow.Author.Needs.{needs}
 use borrow.Author.Tests.{not-true, not-false, lt-ltb, le-ltb}
 use Rattle.modbus.specs.Frame.{silence}
 use Rattle.meter.specs.Meters.{meterOk}
-use Rattle.board.proofs.Cases.{parts, board-1, board-2, board-silent, board-obeys}
+use Rattle.board.proofs.Cases.{allowed, board-1, board-2, board-silent, board-obeys}
 use Rattle.board.proofs.handle.Statement.{statement}
 use Rattle.board.proofs.handle.Tie as tie
 
@@ -29,8 +29,8 @@ with-requires c κs = search needs
 returns : tie.Need-returns
 returns c =
     let s = c .before .before .before .before .before in
-    let b = parts (board-1 (s .args .meter) (s .args .frame .now) (s .args .buffer .now) (sym (c .before .before .within .ensures) ∙ not-true _ (c .before .if1 .taken))) in
-    (c .with .ensures ∙ b .0, b .1)
+    let b = allowed (board-1 (s .args .meter) (s .args .frame .now) (s .args .buffer .now) (sym (c .before .before .within .ensures) ∙ not-true _ (c .before .if1 .taken))) in
+    record { handled = c .with .ensures ∙ b .handled; bytes = b .bytes }
 
 with-requires-2 : tie.Need-with-requires-2
 with-requires-2 c κs = search needs
@@ -38,8 +38,8 @@ with-requires-2 c κs = search needs
 returns-2 : tie.Need-returns-2
 returns-2 c =
     let s = c .before .before .before .before .before .before in
-    let b = parts (board-2 (s .args .meter) (s .args .frame .now) (s .args .buffer .now) (within (c .before .before)) (lt-ltb _ _ (c .before .if2 .taken))) in
-    (c .with2 .ensures ∙ b .0, b .1)
+    let b = allowed (board-2 (s .args .meter) (s .args .frame .now) (s .args .buffer .now) (within (c .before .before)) (lt-ltb _ _ (c .before .if2 .taken))) in
+    record { handled = c .with2 .ensures ∙ b .handled; bytes = b .bytes }
 
 silence-requires : tie.Need-silence-requires
 silence-requires c κs = search needs
@@ -50,8 +50,8 @@ with-requires-3 c κs = search needs
 returns-3 : tie.Need-returns-3
 returns-3 c =
     let s = c .before .before .before .before .before .before .before .before in
-    let b = parts (board-silent (s .args .meter) (s .args .frame .now) (s .args .buffer .now) (within (c .before .before .before .before)) (room (c .before .before .before)) (sym (c .before .before .silence .ensures) ∙ c .before .if3 .taken)) in
-    (c .with3 .ensures ∙ b .0, b .1)
+    let b = allowed (board-silent (s .args .meter) (s .args .frame .now) (s .args .buffer .now) (within (c .before .before .before .before)) (room (c .before .before .before)) (sym (c .before .before .silence .ensures) ∙ c .before .if3 .taken)) in
+    record { handled = c .with3 .ensures ∙ b .handled; bytes = b .bytes }
 
 obey-requires : tie.Need-obey-requires
 obey-requires c κs =
@@ -66,7 +66,7 @@ returns-4 c =
     let s = c .before .before .before .before .before .before .before .before .before .before .before in
     let b = board-obeys (s .args .meter) (s .args .frame .now) (s .args .buffer .now) (within (c .before .before .before .before .before .before .before)) (room (c .before .before .before .before .before .before)) (heard (c .before .before .before .before)) in
     let e = c .before .before .obey .ensures in
-    (e .0 ∙ parts b .0, e .1 ∙ parts b .1)
+    record { handled = e .handled ∙ allowed b .handled; bytes = e .bytes ∙ allowed b .bytes }
 
 pub handle-spec : {M : Type 1} → statement M
 handle-spec =
