@@ -23,7 +23,7 @@ use Rattle.meter.specs.Meters.{meterOk}
 use Rattle.board.specs.declared.Handled.{Handled}
 use Rattle.board.specs.declared.Reply.{Reply}
 use Rattle.board.specs.declared.Reply.the-variants.{Silent, Sent, Refused}
-use Rattle.store.specs.Writes.{storedOf}
+use Rattle.store.specs.Writes.{storedOf, verdictTold}
 use Rattle.board.specs.Board.{Outcome, boardOf}
 use Rattle.board.specs.Answers.{Heeds, Answers, Errs, ReadErrs, WriteErrs, Quiet, Stores, replyTold, Comes, Rows, ExactlyWhen, Obeys, Untouched, RepliesSealed, BufferUnseen}
 use Rattle.board.proofs.Cases.{board-1, board-2, board-silent}
@@ -130,7 +130,11 @@ module _ (m : Meter) (frame b : List ℕ) (code : ErrorCode) where
 no-function : (m : Meter) (frame : List ℕ) → Faults Function m frame → (isRead frame ≡ false) × (isWrite frame ≡ false)
 no-function m frame (unknown r w e) = (r, w)
 no-function m frame (bad-read h) = absurd (read-when .never directory frame (h .1))
-no-function m frame (bad-write h) = absurd (write-when .never m frame (h .1))
+no-function m frame (bad-write h) = absurd (neither (write-when .only m frame 1 (ap verdictTold (h .1))))
+  where
+    neither : (errorNumber Function ≡ 2) ⊎ (errorNumber Function ≡ 3) → ⊥
+    neither (inl e) = omega (arith, e)
+    neither (inr e) = omega (arith, e)
 
 module _ (m : Meter) (frame b : List ℕ) where
   rows : Rows m frame b

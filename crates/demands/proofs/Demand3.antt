@@ -22,7 +22,7 @@ use Rattle.meter.specs.declared.Meter.{Meter}
 use Rattle.meter.specs.Energies.{valueOf}
 use Rattle.meter.specs.Meters.{noEnergy, meterT, meterOk, newOf, energiesOf, energyAt}
 use Rattle.meter.proofs.Parts.{energy-rest, meter-parts}
-use Rattle.meter.proofs.Sums.{energy-is-sum}
+use Rattle.meter.proofs.Sums.{new-zero}
 use Rattle.meter.proofs.Answers.{new-answers, new-blank}
 use Rattle.registers.proofs.Values.{energy-within, energy-most}
 use Rattle.registers.proofs.Widths.{Shows, count-shows, low-shows, high-shows, wrap-shows}
@@ -86,10 +86,10 @@ module _ (h : History) (e : ℕ) (four : e < 4) where
   then =
       let blank = new-blank (h .address) (h .ratios) in
       record {
-        within = after-events .within first (h .events) (new-answers .accepted (h .address) (h .ratios) .0 (h .made));
+        within = after-events .within first (h .events) (new-answers .within (h .address) (h .ratios) .0 (h .made));
         address = after-events .address first (h .events) ∙ ap (λ (m : Meter). m .address) blank;
         ratios = after-events .ratios first (h .events) ∙ ap (λ (m : Meter). m .ratios) blank;
-        value = omega (arith, after-events .grows e first (h .events), energy-is-sum .starts e (h .address) (h .ratios));
+        value = omega (arith, after-events .grows e first (h .events), new-zero e (h .address) (h .ratios));
       }
 
   last : Moment (later h)
@@ -142,7 +142,6 @@ module _ (h : History) (e : ℕ) (four : e < 4) where
   register-read : (m n : Meter) → Moment m → Moment n → (r : Poll (h .address) (energyCount e)) (w : Poll (h .address) (wrap e)) → RegisterRead h e (collected (h .ratios) m r) (collected (h .ratios) n w)
   register-read m n now thereafter r w = record {
     count = registerOf t whole;
-    alone = energyOf t (registerOf t whole .0);
     turns = wrapOf t whole;
     whole = roundedOf t whole;
     reads = counts m now r;

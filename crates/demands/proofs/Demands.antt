@@ -1,45 +1,87 @@
 -- Each part is proved in its own crate, or beside this file.
-use Rattle.crc.proofs.Laws.{intact-is-sealed}
+use Rattle.refusal.proofs.Distinct.{one-reason-each}
+use Rattle.crc.proofs.Laws.{crc-fits, intact-is-sealed, put-seals}
+use Rattle.words.proofs.Laws.{byte-sent, read-back}
+use Rattle.words.proofs.Signs.{signed-back}
+use Rattle.lines.proofs.Texts.{text-back}
+use Rattle.counts.proofs.Joins.{join-split}
 use Rattle.directory.proofs.Rules.{directory-rules, three-tables}
+use Rattle.directory.proofs.Sends.{run-sends}
 use Rattle.modbus.proofs.Judged.{read-when}
+use Rattle.reading.proofs.Told.{one-answer-each}
 use Rattle.reading.proofs.Thirteen.{thirteen-when}
 use Rattle.collector.proofs.Answers as collector
 use Rattle.collector.proofs.Joins.{joins-when}
-use Rattle.meter.proofs.Answers.{new-answers, sample-answers}
+use Rattle.meter.proofs.Parts.{zero-to-neither}
+use Rattle.meter.proofs.Answers.{new-answers, sample-answers, setup-idle}
 use Rattle.store.proofs.Verdicts.{write-when}
+use Rattle.registers.proofs.Widths.{every-case, setup-unseen}
 use Rattle.board.proofs.Answers as board
-use Rattle.demands.specs.Demands.{Demand1, Demand2, Demands}
+use Rattle.demands.specs.Demands.{Demand1, Ground, Replies, Readings, Demand2, Demands}
 use Rattle.demands.proofs.Polls.{with-data, round-trip}
 use Rattle.demands.proofs.Polled.{every-item-polled}
 use Rattle.demands.proofs.Histories.{after-events}
+use Rattle.demands.proofs.Types.{types-kept}
+use Rattle.demands.proofs.NotEmpty.{not-empty, reads-always}
 use Rattle.demands.proofs.Demand3.{demand-3}
-use Rattle.demands.proofs.Determined.{determined, once}
+use Rattle.demands.proofs.Determined.{determined, numbered}
 use Rattle.demands.proofs.Starred.{examples-hold}
 use Rattle.demands.proofs.ShutOut.{shut-out}
 
 pub demand-1 : Demand1
-demand-1 = record { samples = sample-answers; frames = board.untouched; replies = collector.not-misread; records = after-events }
+demand-1 = record {
+  samples = sample-answers;
+  frames = board.untouched;
+  unseen = board.buffer-unseen;
+  replies = collector.not-misread;
+  records = after-events;
+}
 
-pub demand-2 : Demand2
-demand-2 = record {
+pub ground : Ground
+ground = record {
+  reasons = one-reason-each;
+  answers = one-answer-each;
+  numbered = numbered;
+  crc = crc-fits;
+  damaged = intact-is-sealed;
+  put = put-seals;
+  bytes = byte-sent;
+  words = read-back;
+  signed = signed-back;
+  table = directory-rules;
+  places = three-tables;
+  runs = run-sends;
+  lines = text-back;
+}
+
+pub replies : Replies
+replies = record {
   new-meters = new-answers;
-  replies = board.exactly-when;
+  frames = board.exactly-when;
   obeys = board.obeys;
   whole = board.replies-sealed;
-  damaged = intact-is-sealed;
   reads = read-when;
   writes = write-when;
-  table = directory-rules;
+  shown = every-case;
+  zero = zero-to-neither;
+  setup-idle = setup-idle;
+  setup-unseen = setup-unseen;
+}
+
+pub readings : Readings
+readings = record {
   answers = collector.exactly-when;
   impossible = thirteen-when;
   joins = joins-when;
+  split = join-split;
   with-data = with-data;
-  polled = every-item-polled;
   readings = round-trip;
-  determined = determined;
-  once = once;
-  examples = examples-hold;
+  typed = types-kept;
+  always = reads-always;
 }
 
+pub demand-2 : Demand2
+demand-2 = record { ground = ground; replies = replies; readings = readings; determined = determined; examples = examples-hold }
+
 pub demands : Demands
-demands = record { one = demand-1; two = demand-2; three = demand-3; places = three-tables; tight = shut-out }
+demands = record { one = demand-1; two = demand-2; three = demand-3; polled = every-item-polled; not-empty = not-empty; tight = shut-out }

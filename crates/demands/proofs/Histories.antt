@@ -15,8 +15,8 @@ use Rattle.meter.specs.Meters.{meterT, meterOk, withSetup, energyAt}
 use Rattle.meter.specs.After.{nextOf, meterWithinTop, afterOf}
 use Rattle.meter.specs.Carried.{carriesFor}
 use Rattle.meter.proofs.Cases.{chosen}
-use Rattle.meter.proofs.Sums.{energy-is-sum}
-use Rattle.meter.proofs.Answers.{stays-within}
+use Rattle.meter.proofs.Sums.{after-adds}
+use Rattle.meter.proofs.Answers.{sample-within}
 use Rattle.store.specs.Writes.{toStandard, storedOf}
 use Rattle.board.specs.Board.{boardOf}
 use Rattle.board.specs.Answers.{Heeds, Stores}
@@ -54,11 +54,11 @@ module _ {A : Type 0} (see : Meter → A) (blind : (m : Meter) (s : Sample) → 
   sample-unseen m s = chosen-unseen (meterOk m) (sampleOk (meterT m) s) (meterWithinTop (nextOf m s)) m (nextOf m s) (blind m s)
 
 event-within : (m : Meter) (x : Event) → meterOk m ≡ true → meterOk (afterEvent m x) ≡ true
-event-within m (Event.sample s) h = stays-within .sample m s h
-event-within m (Event.frame bytes b) h = frame-within .frame m bytes b h
+event-within m (Event.sample s) h = sample-within m s h
+event-within m (Event.frame bytes b) h = frame-within m bytes b h
 
 event-adds : (e : ℕ) (m : Meter) (x : Event) → valueOf (energyAt e (afterEvent m x)) ≡ valueOf (energyAt e m) + eventAdds e m x
-event-adds e m (Event.sample s) = energy-is-sum .grows e m s
+event-adds e m (Event.sample s) = after-adds e m s
 event-adds e m (Event.frame bytes b) = frame-unseen (λ m. valueOf (energyAt e m)) (λ m s o. refl) m bytes b ∙ omega arith
 
 -- ---- and so for any

@@ -2,6 +2,8 @@ pub mod Shown
 pub mod Polls
 pub mod Polled
 pub mod Histories
+pub mod Types
+pub mod NotEmpty
 pub mod Demand3
 pub mod Determined
 pub mod Starred

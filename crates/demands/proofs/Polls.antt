@@ -10,8 +10,7 @@ use lib.ListN.{length, getD, take, drop}
 use borrow.Author.Tests.{leb-true, eqb-true, eq-eqb, le-ltb}
 use Rattle.refusal.specs.declared.ErrorCode.{ErrorCode}
 use Rattle.refusal.specs.declared.ErrorCode.the-variants.{Function}
-use Rattle.refusal.specs.declared.Refusal.the-variants.{NotARead, IndexPastItems}
-use Rattle.refusal.specs.Numbers.{errorNumber}
+use Rattle.refusal.specs.Numbers.{refusedBy, errorBy}
 use Rattle.crc.specs.Crc.{crcOf, onLine}
 use Rattle.crc.proofs.Laws.{length-sealed, intact-is-sealed}
 use Rattle.words.specs.Words.{sent, valueAt}
@@ -26,7 +25,7 @@ use Rattle.directory.specs.Run.{runItems}
 use Rattle.directory.proofs.Order.{every-at, ruled-narrow}
 use Rattle.directory.proofs.Rules.{directory-ruled}
 use Rattle.modbus.specs.Frame.{addressOf, functionOf, wordNumber, isRead, isWrite, silence}
-use Rattle.modbus.specs.Replies.{dataReply, errorReply, echoReply}
+use Rattle.modbus.specs.Replies.{dataReply, errorBytes, errorReply, echoReply}
 use Rattle.modbus.proofs.Frames.{shaped-length}
 use Rattle.modbus.proofs.Judged.{legal-read}
 use Rattle.meter.specs.declared.Meter.{Meter}
@@ -35,7 +34,8 @@ use Rattle.meter.proofs.Parts.{meter-parts}
 use Rattle.store.proofs.Verdicts.{write-when}
 use Rattle.registers.specs.Shown.{shownOf}
 use Rattle.registers.proofs.Widths.{Shows, in-room, typed-shows}
-use Rattle.reading.specs.declared.Answer.the-variants.{Reading, Error, Refused}
+use Rattle.reading.specs.declared.Answer.the-variants.{Reading}
+use Rattle.reading.specs.Cases.{told}
 use Rattle.reading.specs.Readings.{readingOf}
 use Rattle.board.specs.Reads.{itemsSent}
 use Rattle.board.specs.Board.{Outcome}
@@ -47,7 +47,7 @@ use Rattle.board.proofs.Views.View.{out, short, unheard, for-all, for-one}
 use Rattle.board.proofs.Replies.{gives-long, gives-whole, sent-front, echo-function}
 use Rattle.board.proofs.Answers.{obeys}
 use Rattle.collector.specs.Collector.{heard, isReadError, placeOf, collectorOf}
-use Rattle.collector.specs.Answers.{Asks, Asked, Fits, itemAt, valueIn}
+use Rattle.collector.specs.Answers.{Asks, Asked, Fits, itemAt, valueIn, Comes}
 use Rattle.collector.proofs.Requests.{Hears, hears, heard-so}
 use Rattle.collector.proofs.Places.{run-length, run-at}
 use Rattle.collector.proofs.Answers.{exactly-when}
@@ -168,7 +168,7 @@ module _ (m : Meter) (request b : List ℕ) (meets : Meets m request b) (a : Ask
     reads : Shows m (it .quantity) → collectorOf request reply (m .ratios) index ≡ Reading (meaningOf m (it .quantity))
     unfolding fits
     reads fit =
-        exactly-when .reading request reply (m .ratios) index (meaningOf m (it .quantity)) .1
+        exactly-when .rows request reply (m .ratios) index .reading (meaningOf m (it .quantity)) .1
         (record {
           holds = record { fits = fits; below = below };
           reading = ap (readingOf (meterT m) it) (value-back fit) ∙ item-read m (meets .within) (a .first + index) known fit;
@@ -178,29 +178,31 @@ module _ (m : Meter) (request b : List ℕ) (meets : Meets m request b) (a : Ask
     pub collects : Shows m (it .quantity) → collectorOf request (replyTo m request b) (m .ratios) index ≡ Reading (meaningOf m (it .quantity))
     collects fit = ap (λ (x : List ℕ). collectorOf request x (m .ratios) index) replies ∙ reads fit
 
-  pub past : (index : ℕ) → a .count ≤ index → collectorOf request reply (m .ratios) index ≡ Refused IndexPastItems
+  pub past : (index : ℕ) → a .count ≤ index → Comes request reply (m .ratios) index (refusedBy 12)
   unfolding fits
-  past index over = exactly-when .refused request reply (m .ratios) index IndexPastItems .1 (record { fits = fits; past = over })
+  past index over = exactly-when .rows request reply (m .ratios) index .row-12 .1 (record { fits = fits; past = over })
 
 -- ---- an error reply to such a request
 
-error-given : (request : List ℕ) (r : Ratios) (index : ℕ) (code : ErrorCode) → Asked request r → collectorOf request (errorReply request code) r index ≡ Error code
-error-given request r index code asked =
-    exactly-when .error request reply r index code .1
+error-given : (request : List ℕ) (r : Ratios) (index code : ℕ) → Asked request r → 1 ≤ code → code ≤ 3 → Comes request (errorBytes request code) r index (errorBy code)
+error-given request r index code asked some most =
+    exactly-when .rows request reply r index .error code .1
     (record {
       sound = record {
         asked = asked;
         long = refl;
-        whole = intact-is-sealed .passes (addressOf request ∷ (functionOf request + 0x80) ∷ errorNumber code ∷ []);
+        whole = intact-is-sealed .passes (addressOf request ∷ (functionOf request + 0x80) ∷ code ∷ []);
         own = simp (eq-eqb (addressOf request) (addressOf request) refl, error, other);
       };
       error = error;
       long = refl;
       says = refl;
+      some = some;
+      most = most;
     })
   where
     reply : List ℕ
-    reply = errorReply request code
+    reply = errorBytes request code
 
     three : functionOf request ≡ 0x03
     three = eqb-true (functionOf request) 0x03 (hears request (asked .asks .hears) .read)
@@ -254,7 +256,7 @@ with-data = record { same = λ m request b meets. (λ a. ap isRead (replies m re
 pub round-trip : RoundTrip
 round-trip = record {
   reads = λ m request b index typed meets a below. collects m request b meets a index below (typed-shows m typed (meets .within) (a .first + index) (known m request b meets a index below));
-  past = λ m request b index meets a over. ap (λ (reply : List ℕ). collectorOf request reply (m .ratios) index) (replies m request b meets a) ∙ past m request b meets a index over;
+  past = λ m request b index meets a over. ap (λ (reply : List ℕ). told (collectorOf request reply (m .ratios) index)) (replies m request b meets a) ∙ past m request b meets a index over;
   error = error-given;
-  other = λ m request b reply r index meets ok h. exactly-when .refused request reply r index NotARead .1 (ok, λ a. false≢true (sym h ∙ with-data .same m request b meets .0 a));
+  other = λ m request b reply r index meets ok h. exactly-when .rows request reply r index .row-7 .1 (ok, λ a. false≢true (sym h ∙ with-data .same m request b meets .0 a));
 }

@@ -34,7 +34,7 @@ use Rattle.reading.specs.declared.Answer.the-variants.{Reading}
 use Rattle.reading.specs.Readings.{impossible, when, times, signedIn, counted, longs, shorts, isB, readingOf}
 use Rattle.reading.proofs.ByKind.{long-kind, word-kind, Each, each-at}
 use Rattle.reading.proofs.Wide.{wordsFor, wide-at}
-use Rattle.demands.specs.Meaning.{cut, powerMeanings, signedMeanings, countMeanings, lowMeanings, highMeanings, wrapMeanings, factorMeanings, signMeanings, meanings, meaningOf, ShownIsRead}
+use Rattle.demands.specs.Meaning.{cut, powerMeanings, signedMeanings, countMeanings, lowMeanings, highMeanings, wrapMeanings, factorMeanings, signMeanings, meanings, meaningOf}
 
 -- ---- a B
 
@@ -191,6 +191,3 @@ module _ (m : Meter) (ok : meterOk m ≡ true) (i : ℕ) (l : i < length directo
         word-kind q (isB it) v (q / 64) (upper-clear it v (in-room i l (shows .fits))) (omega arith),
       )
       (each-at (ReadKind m) 0 17 (q / 64) (kinds-read m ok) zero-le (omega arith) (q % 64) (shows .case))
-
-pub shown-is-read : ShownIsRead
-shown-is-read = record { items = λ m typed ok i l. item-read m ok i l (typed-shows m typed ok i l) }

@@ -1,4 +1,4 @@
--- After one sample of ten Wh the exact energy is a step higher, after two it is two higher, and no figure is within less than a step of both; the step is
+-- Of our own the figure is what demand 3 speaks of. After one sample of ten Wh the exact energy is a step higher, after two it is two higher, and no figure is within less than a step of both; the step is
 -- positive, so the bounds fix the count.
 use mathlib.Core.Path.{_≡_, refl, sym, ap, _∙_}
 use mathlib.Core.Bool.{true, _&&_}
@@ -16,7 +16,8 @@ use Rattle.ratio.proofs.Powers.{power-laws}
 use Rattle.ratio.specs.Steps.{stepOf}
 use Rattle.counts.specs.Energies.{topWh, topCount, registerOf, wrapOf, energyOf}
 use Rattle.setup.specs.Ranges.{wordOk, groupOk}
-use Rattle.directory.specs.Quantity.{posEa}
+use Rattle.directory.specs.Quantity.{energyCount, wrap, posEa}
+use Rattle.reading.specs.declared.Answer.{Answer}
 use Rattle.meter.specs.declared.Answer.the-variants.{Accepted}
 use Rattle.meter.specs.declared.samples.Powers.{Powers}
 use Rattle.meter.specs.declared.samples.Sample.{Sample}
@@ -27,9 +28,33 @@ use Rattle.meter.specs.Meters.{meterT, meterOk, blankOf, newOf}
 use Rattle.meter.specs.After.{nextOf, meterWithinTop, afterOf}
 use Rattle.meter.proofs.Parts.{powers-sum, sample-parts}
 use Rattle.meter.proofs.Answers.{new-answers, new-blank, sample-answers}
-use Rattle.demands.specs.Histories.{Event, exactOf}
-use Rattle.demands.specs.Demand3.{Bounds}
-use Rattle.demands.specs.ShutOut.{bare, tenWh, Keeps, ShutOut}
+use Rattle.demands.specs.Histories.{Event, afterAll, exactOf}
+use Rattle.demands.specs.Demand3.{History, Poll, Bounds, RegisterRead}
+use Rattle.demands.specs.ShutOut.{Keeps, joinedWh, ours, bareRatios, tenWh, KeepsBare, ShutOut}
+use Rattle.demands.proofs.NotEmpty.{not-empty}
+use Rattle.demands.proofs.Demand3.{demand-3}
+
+-- ---- our own
+
+-- the history of a new meter with nothing between
+module _ (address : ℕ) (r : Ratios) (made : newOf address r .answer ≡ Accepted) (e : ℕ) (four : e < 4) (register : Poll address (energyCount e)) (wrapped : Poll address (wrap e)) where
+  abbrev told-by : List Event → History
+  told-by xs = record { address = address; ratios = r; made = made; events = xs; between = []; idle = not-empty .idle (afterAll (newOf address r .meter) xs) [] [] }
+
+  -- what is read and joined is what demand 3 speaks of
+  joined-so : (xs : List Event) (a b : Answer) (x : RegisterRead (told-by xs) e a b) → joinedWh r a b ≡ x .whole .0
+  joined-so xs a b x = rw (x .reads, x .wraps, x .joins) refl
+
+  kept : Keeps address r e (ours address r e register wrapped)
+  unfolding afterAll
+  kept xs =
+      let x = demand-3 .register-first (told-by xs) e four register wrapped in
+      rw (joined-so xs _ _ x) (x .bounds)
+
+-- ---- others
+
+abbrev bare : Meter
+bare = newOf 1 bareRatios .meter
 
 abbrev one : List Event
 one = Event.sample tenWh ∷ []
@@ -49,18 +74,23 @@ two-exact : exactOf posEa bare two ≡ 7200000
 unfolding exactOf afterOf newOf meterOk sampleOk powerLimit groupOk wordOk
 two-exact = refl
 
--- no figure keeps the bounds both before and after a whole step
-same-figure : (x y : ℕ) → x ≡ y → (a b : ℕ) → b ≡ a + 3600000 → Bounds a 10 x → Bounds b 10 y → ⊥
-same-figure x y e a b f p q = omega (arith, e, f, p .above, q .below)
+-- the step of such a meter
+ten : stepOf (tOf bareRatios) ≡ 10
+unfolding stepOf
+ten = refl
 
-ignores-samples : (figure : List Event → ℕ) → ((s : Sample) (xs : List Event) → figure (Event.sample s ∷ xs) ≡ figure xs) → Keeps figure → ⊥
+-- no figure keeps the bounds both before and after a whole step
+same-figure : (x y : ℕ) → x ≡ y → (a b : ℕ) → b ≡ a + 3600000 → Bounds a (stepOf (tOf bareRatios)) x → Bounds b (stepOf (tOf bareRatios)) y → ⊥
+same-figure x y e a b f p q = omega (arith, e, f, ten, p .above, q .below)
+
+ignores-samples : (figure : List Event → ℕ) → ((s : Sample) (xs : List Event) → figure (Event.sample s ∷ xs) ≡ figure xs) → KeepsBare figure → ⊥
 ignores-samples figure same keeps = same-figure (figure []) (figure one) (sym (same tenWh [])) _ _ (one-exact ∙ ap (λ (n : ℕ). n + 3600000) (sym none-exact)) (keeps []) (keeps one)
 
 -- what is the same each time ignores samples
-same-each-time : (figure : List Event → ℕ) → ((xs : List Event) → figure xs ≡ figure []) → Keeps figure → ⊥
+same-each-time : (figure : List Event → ℕ) → ((xs : List Event) → figure xs ≡ figure []) → KeepsBare figure → ⊥
 same-each-time figure same = ignores-samples figure (λ s xs. same (Event.sample s ∷ xs) ∙ sym (same xs))
 
-first-only : (figure : List Event → ℕ) → ((s t : Sample) (xs : List Event) → figure (Event.sample s ∷ Event.sample t ∷ xs) ≡ figure (Event.sample s ∷ xs)) → Keeps figure → ⊥
+first-only : (figure : List Event → ℕ) → ((s t : Sample) (xs : List Event) → figure (Event.sample s ∷ Event.sample t ∷ xs) ≡ figure (Event.sample s ∷ xs)) → KeepsBare figure → ⊥
 first-only figure same keeps = same-figure (figure one) (figure two) (sym (same tenWh tenWh [])) _ _ (two-exact ∙ ap (λ (n : ℕ). n + 3600000) (sym one-exact)) (keeps one) (keeps two)
 
 made-up : (t exact count wrap : ℕ) → count ≤ topCount → Bounds exact (stepOf t) (energyOf t (wrap * 100000000 + count) .0) → (count ≡ registerOf t (record { 0 = exact / 360000 }) .0) × (wrap ≡ wrapOf t (record { 0 = exact / 360000 }))
@@ -88,7 +118,7 @@ takes address r s made h =
     let parts = sample-parts (tOf r) s h in
     let top : meterWithinTop (nextOf (blankOf address r) s) ≡ true = λ i. first-within address r (s .p) (parts .p) i && first-within address r (s .q) (parts .q) i in
     sample-answers .accepted (newOf address r .meter) s .1
-    (new-answers .accepted address r .0 made, ap (λ (m : Meter). sampleOk (meterT m) s) blank ∙ h, ap (λ (m : Meter). meterWithinTop (nextOf m s)) blank ∙ top)
+    (new-answers .within address r .0 made, ap (λ (m : Meter). sampleOk (meterT m) s) blank ∙ h, ap (λ (m : Meter). meterWithinTop (nextOf m s)) blank ∙ top)
 
 pub shut-out : ShutOut
-shut-out = record { takes = takes; same-each-time = same-each-time; ignores-samples = ignores-samples; first-only = first-only; made-up = made-up }
+shut-out = record { kept = kept; same-each-time = same-each-time; ignores-samples = ignores-samples; first-only = first-only; made-up = made-up; takes = takes }

@@ -11,7 +11,7 @@ use Rattle.counts.specs.declared.WattHours.{WattHours}
 use Rattle.counts.specs.declared.Joined.the-variants as joined
 use Rattle.ratio.specs.Ratios.{tOf}
 use Rattle.ratio.specs.Steps.{stepOf}
-use Rattle.counts.specs.Energies.{joinOf, joinHalvesOf}
+use Rattle.counts.specs.Energies.{energyOf, joinOf, joinHalvesOf}
 use Rattle.directory.specs.Quantity.{energyCount, wrap, low, high}
 use Rattle.modbus.specs.Frame.{addressOf}
 use Rattle.reading.specs.declared.Quantity.the-variants as read
@@ -69,10 +69,9 @@ pub record Bounds (exact step wh : ℕ) : Type 0 where
 -- register and wrap are read, they join, and what they come to is within the bounds of the ratio's step
 pub record RegisterRead (h : History) (e : ℕ) (register wrapped : Answer) : Type 0 where
   pub count : Count
-  pub alone : WattHours
   pub turns : ℕ
   pub whole : WattHours
-  pub reads : register ≡ Reading (read.Energy count (stepOf (tOf (h .ratios))) alone)
+  pub reads : register ≡ Reading (read.Energy count (stepOf (tOf (h .ratios))) (energyOf (tOf (h .ratios)) (count .0)))
   pub wraps : wrapped ≡ Reading (read.Wrap turns)
   pub joins : joinOf (h .ratios) count turns ≡ joined.Energy whole
   pub bounds : Bounds (exactAt e h) (stepOf (tOf (h .ratios))) (whole .0)

@@ -1,17 +1,27 @@
--- The customer's three demands: what each is in one line, and the statements that it comes to.
-use Rattle.crc.specs.Crc.{IntactIsSealed}
+-- The customer's three demands: what each is in one line, and the statements that it comes to. Every STATEMENT of the tree is a part.
+use Rattle.refusal.specs.Numbers.{OneReasonEach}
+use Rattle.crc.specs.Crc.{CrcFits, IntactIsSealed, PutSeals}
+use Rattle.words.specs.Words.{ByteSent, ReadBack}
+use Rattle.words.specs.Signed.{SignedBack}
+use Rattle.lines.specs.Lines.{TextBack}
+use Rattle.counts.specs.Energies.{JoinSplit}
 use Rattle.directory.specs.Rules.{DirectoryRules, ThreeTables}
+use Rattle.directory.specs.Run.{RunSends}
 use Rattle.modbus.specs.Read.{ReadWhen}
+use Rattle.reading.specs.Cases.{OneAnswerEach}
 use Rattle.reading.specs.Impossible.{ThirteenWhen}
 use Rattle.collector.specs.Answers as collector
-use Rattle.meter.specs.Answers.{NewAnswers, SampleAnswers}
+use Rattle.meter.specs.Energies.{ZeroToNeither}
+use Rattle.meter.specs.Answers.{NewAnswers, SampleAnswers, SetupIdle}
 use Rattle.store.specs.Writes.{WriteWhen}
+use Rattle.registers.specs.Cases.{EveryCase, SetupUnseen}
 use Rattle.board.specs.Answers as board
 use Rattle.demands.specs.RoundTrip.{WithData, RoundTrip}
-use Rattle.demands.specs.Histories.{AfterEvents}
+use Rattle.demands.specs.Histories.{TypesKept, AfterEvents}
 use Rattle.demands.specs.Polled.{EveryItemPolled}
 use Rattle.demands.specs.Demand3.{Demand3}
-use Rattle.demands.specs.Determined.{Determined, Once}
+use Rattle.demands.specs.NotEmpty.{NotEmpty, ReadsAlways}
+use Rattle.demands.specs.Determined.{Determined, Numbered}
 use Rattle.demands.specs.ShutOut.{ShutOut}
 use Rattle.demands.specs.Starred.{ExamplesHold}
 
@@ -20,34 +30,64 @@ use Rattle.demands.specs.Starred.{ExamplesHold}
 pub record Demand1 : Type 0 where
   pub samples : SampleAnswers
   pub frames : board.Untouched
+  pub unseen : board.BufferUnseen
   pub replies : collector.NotMisread
   pub records : AfterEvents
 
--- STATEMENT: demand 2: every reply is, byte for byte, the one that paper 01 gives; the collector turns each reply into the one reading assigned, or the one refusal
-pub record Demand2 : Type 1 where
+-- STATEMENT: what both ends go by: the numbers of answers, CRC, words, directory, lines
+pub record Ground : Type 0 where
+  pub reasons : OneReasonEach
+  pub answers : OneAnswerEach
+  pub numbered : Numbered
+  pub crc : CrcFits
+  pub damaged : IntactIsSealed
+  pub put : PutSeals
+  pub bytes : ByteSent
+  pub words : ReadBack
+  pub signed : SignedBack
+  pub table : DirectoryRules
+  pub places : ThreeTables
+  pub runs : RunSends
+  pub lines : TextBack
+
+-- STATEMENT: demand 2, its first half: every reply is, byte for byte, the one that paper 01 gives
+pub record Replies : Type 0 where
   pub new-meters : NewAnswers
-  pub replies : board.ExactlyWhen
+  pub frames : board.ExactlyWhen
   pub obeys : board.Obeys
   pub whole : board.RepliesSealed
-  pub damaged : IntactIsSealed
   pub reads : ReadWhen
   pub writes : WriteWhen
-  pub table : DirectoryRules
+  pub shown : EveryCase
+  pub zero : ZeroToNeither
+  pub setup-idle : SetupIdle
+  pub setup-unseen : SetupUnseen
+
+-- STATEMENT: demand 2, its second half: the collector turns each reply into the one reading assigned, or the one refusal
+pub record Readings : Type 0 where
   pub answers : collector.ExactlyWhen
   pub impossible : ThirteenWhen
   pub joins : collector.JoinsWhen
+  pub split : JoinSplit
   pub with-data : WithData
-  pub polled : EveryItemPolled
   pub readings : RoundTrip
+  pub typed : TypesKept
+  pub always : ReadsAlways
+
+-- STATEMENT: demand 2, with the ground of both halves, and what is said of every call: its outcome is determined, and the paper's examples come out
+pub record Demand2 : Type 0 where
+  pub ground : Ground
+  pub replies : Replies
+  pub readings : Readings
   pub determined : Determined
-  pub once : Once
   pub examples : ExamplesHold
 
 -- STATEMENT: the three; demand 3: one energy, read in any of the three places, is never above the exact energy of the samples accepted so far, and below it by
--- less than one step
-pub record Demands : Type 1 where
+-- less than one step. None of it is empty, and it leaves no room for the wrong meters that the paper names
+pub record Demands : Type 0 where
   pub one : Demand1
   pub two : Demand2
   pub three : Demand3
-  pub places : ThreeTables
+  pub polled : EveryItemPolled
+  pub not-empty : NotEmpty
   pub tight : ShutOut

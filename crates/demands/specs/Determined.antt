@@ -1,83 +1,37 @@
--- Paper 01, "How tight the contracts are": for every input each public call has its answer, new record and buffer bytes determined, refused calls
--- too. Where an answer is an enum, what is allowed is said by the paper's numbers and values of its cases.
+-- Paper 01, "How tight the contracts are": for every input each public call has its answer, new record and buffer bytes determined, refused
+-- calls too. The contract of most calls is one equation: the outcome, record and all, is a definition of the arguments, and two outcomes
+-- that equal the same are equal. Four calls promise more than one thing. Each names all that its contract allows in one predicate, which its
+-- `ensures` cites and which is spoken of here: a promise taken out of it leaves two outcomes allowed.
 use mathlib.Core.Path.{_≡_}
 use Prim.Native.Nat.{ℕ}
 use mathlib.Core.Bool.{Bool}
-use mathlib.Core.List.{List, [], _∷_}
-use Rattle.refusal.specs.Numbers.{refusalNumber, errorNumber}
+use mathlib.Core.List.{List}
 use Rattle.crc.specs.Crc.{Put}
-use Rattle.ratio.specs.declared.Ratios.{Ratios}
-use Rattle.counts.specs.declared.Count.{Count}
+use Rattle.lines.specs.declared.Line.{Line}
+use Rattle.lines.specs.Lines.{FrameRead, TextPut}
 use Rattle.counts.specs.declared.Joined.{Joined}
-use Rattle.counts.specs.declared.Joined.the-variants as joined
-use Rattle.counts.specs.Energies.{joinOf, joinHalvesOf}
+use Rattle.counts.specs.Energies.{joinTold}
 use Rattle.modbus.specs.declared.Verdict.{Verdict}
-use Rattle.modbus.specs.declared.Verdict.the-variants as verdict
-use Rattle.reading.specs.declared.Answer.{Answer}
-use Rattle.reading.specs.Cases.{told}
-use Rattle.collector.specs.Collector.{collectorOf}
-use Rattle.meter.specs.declared.Answer as meter
-use Rattle.meter.specs.declared.Answer.the-variants as taken
-use Rattle.meter.specs.declared.samples.Sample.{Sample}
+use Rattle.meter.specs.declared.Answer.{Answer}
 use Rattle.meter.specs.declared.Meter.{Meter}
-use Rattle.meter.specs.declared.Answered.{Answered}
-use Rattle.meter.specs.Meters.{newOf}
-use Rattle.meter.specs.After.{afterOf}
-use Rattle.store.specs.declared.Written.{Written}
-use Rattle.store.specs.Writes.{writtenOf}
+use Rattle.meter.specs.Answers.{answerTold}
+use Rattle.store.specs.Writes.{verdictTold}
 use Rattle.board.specs.declared.Reply.{Reply}
-use Rattle.board.specs.declared.Reply.the-variants as board
 use Rattle.board.specs.declared.Handled.{Handled}
-use Rattle.board.specs.Board.{Outcome, boardOf}
+use Rattle.board.specs.Board.{Allowed, boardOf}
+use Rattle.board.specs.Answers.{replyTold}
 
--- a meter's answer in numbers: 0 for accepted; 1 and the number of the refusal
-abbrev pub answerTold : meter.Answer → List ℕ
-answerTold taken.Accepted = 0 ∷ []
-answerTold (taken.Refused reason) = 1 ∷ refusalNumber reason ∷ []
-
--- a reply in numbers: 0 for silence; 1 and the bytes sent; 2 and the number of the refusal
-abbrev pub replyTold : Reply → List ℕ
-replyTold board.Silent = 0 ∷ []
-replyTold (board.Sent n) = 1 ∷ n ∷ []
-replyTold (board.Refused reason) = 2 ∷ refusalNumber reason ∷ []
-
--- a join in numbers: 0 and the Wh; 1 and the number of the refusal
-abbrev pub joinTold : Joined → List ℕ
-joinTold (joined.Energy wh) = 0 ∷ wh .0 ∷ []
-joinTold (joined.Refused reason) = 1 ∷ refusalNumber reason ∷ []
-
--- a write's verdict in numbers: 0; 1 and the error code
-abbrev pub verdictTold : Verdict → List ℕ
-verdictTold verdict.Good = 0 ∷ []
-verdictTold (verdict.Wrong code) = 1 ∷ errorNumber code ∷ []
-
--- the contract of a call on a meter is `x ≡ defined`; by the paper's numbers: the answer and the record
-pub record AnswerAllowed (defined x : Answered) : Type 0 where
-  pub answer : answerTold (x .answer) ≡ answerTold (defined .answer)
-  pub record-after : x .meter ≡ defined .meter
-
--- what a write comes to, by the paper's numbers: the verdict and the record
-pub record VerdictAllowed (defined x : Written) : Type 0 where
-  pub answer : verdictTold (x .verdict) ≡ verdictTold (defined .verdict)
-  pub record-after : x .meter ≡ defined .meter
-
--- what a frame comes to, by the paper's numbers: the answer, the record and every byte of the buffer
-pub record ReplyAllowed (defined : Outcome) (x : Handled) (buffer : List ℕ) : Type 0 where
-  pub answer : replyTold (x .reply) ≡ replyTold (defined .handled .reply)
-  pub record-after : x .meter ≡ defined .handled .meter
-  pub bytes : buffer ≡ defined .buffer
-
--- STATEMENT: any two outcomes that a contract allows are equal
+-- STATEMENT: any two outcomes that a contract allows are equal: of `board::handle`, `crc::put`, `lines::frame` and `lines::text`
 pub record Determined : Type 0 where
-  pub new : (address : ℕ) (r : Ratios) (x y : Answered) → AnswerAllowed (newOf address r) x → AnswerAllowed (newOf address r) y → x ≡ y
-  pub sample : (m : Meter) (s : Sample) (x y : Answered) → AnswerAllowed (afterOf m s) x → AnswerAllowed (afterOf m s) y → x ≡ y
-  pub write : (m : Meter) (frame : List ℕ) (x y : Written) → VerdictAllowed (writtenOf m frame) x → VerdictAllowed (writtenOf m frame) y → x ≡ y
-  pub frame : (m : Meter) (frame b : List ℕ) (x y : Handled) (p q : List ℕ) → ReplyAllowed (boardOf m frame b) x p → ReplyAllowed (boardOf m frame b) y q → (x ≡ y) × (p ≡ q)
-  pub reply : (request reply : List ℕ) (r : Ratios) (index : ℕ) (x y : Answer) → told x ≡ told (collectorOf request reply r index) → told y ≡ told (collectorOf request reply r index) → x ≡ y
-  pub counts : (r : Ratios) (count : Count) (wrap : ℕ) (x y : Joined) → joinTold x ≡ joinTold (joinOf r count wrap) → joinTold y ≡ joinTold (joinOf r count wrap) → x ≡ y
-  pub halves : (low high : ℕ) (x y : Joined) → joinTold x ≡ joinTold (joinHalvesOf low high) → joinTold y ≡ joinTold (joinHalvesOf low high) → x ≡ y
+  pub frame : (m : Meter) (frame b : List ℕ) (x y : Handled) (p q : List ℕ) → Allowed (boardOf m frame b) x p → Allowed (boardOf m frame b) y q → (x ≡ y) × (p ≡ q)
   pub put : (before : List ℕ) (n : ℕ) (x y : Bool) (p q : List ℕ) → Put before n x p → Put before n y q → (x ≡ y) × (p ≡ q)
+  pub line : (line before : List ℕ) (x y : Line) (p q : List ℕ) → FrameRead line before x p → FrameRead line before y q → (x ≡ y) × (p ≡ q)
+  pub text : (frame before : List ℕ) (x y : ℕ) (p q : List ℕ) → TextPut frame before x p → TextPut frame before y q → (x ≡ y) × (p ≡ q)
 
--- STATEMENT: a law of equality, which serves every other call: its contract is an equation of the outcome, answer and buffer each, and what is defined
-pub record Once : Type 1 where
-  pub same : (A : Type 0) (defined x y : A) → x ≡ defined → y ≡ defined → x ≡ y
+-- STATEMENT: the paper's numbers and values of an answer name one answer, so that a promise of them is a promise of the answer; of a collector's
+-- answer it is `OneAnswerEach`
+pub record Numbered : Type 0 where
+  pub answers : (x y : Answer) → answerTold x ≡ answerTold y → x ≡ y
+  pub verdicts : (x y : Verdict) → verdictTold x ≡ verdictTold y → x ≡ y
+  pub replies : (x y : Reply) → replyTold x ≡ replyTold y → x ≡ y
+  pub joins : (x y : Joined) → joinTold x ≡ joinTold y → x ≡ y

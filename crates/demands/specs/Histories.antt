@@ -1,14 +1,17 @@
 -- Demand 3's ground: a meter's history, of samples and frames, accepted and refused, and the exact energy of its accepted samples.
 use mathlib.Core.Path.{_≡_}
-use Prim.Native.Nat.{ℕ, _+_}
+use Prim.Native.Nat.{ℕ, _+_, _<_}
 use mathlib.Core.Bool.{Bool, true, false, _||_}
 use mathlib.Core.List.{List, [], _∷_}
+use lib.ListN.{getD}
+use Rattle.ratio.specs.declared.Ratios.{Ratios}
 use Rattle.meter.specs.declared.samples.Sample.{Sample}
 use Rattle.meter.specs.declared.Meter.{Meter}
 use Rattle.meter.specs.Energies.{valueOf}
-use Rattle.meter.specs.Meters.{meterOk, energyAt}
+use Rattle.meter.specs.Meters.{meterOk, newOf, energyAt}
 use Rattle.meter.specs.After.{afterOf}
 use Rattle.meter.specs.Carried.{isAccepted, addedBy}
+use Rattle.registers.specs.Cases.{SampleTyped, Typed}
 use Rattle.board.specs.Board.{boardOf}
 
 -- an event: a sample is handed over, or a frame, with a buffer for the reply
@@ -45,6 +48,22 @@ exactOf e m (x ∷ xs) = eventAdds e m x + exactOf e (afterEvent m x) xs
 unfoldable pub anyTaken : Meter → List Event → Bool
 anyTaken m [] = false
 anyTaken m (x ∷ xs) = isTaken m x || anyTaken (afterEvent m x) xs
+
+-- an event as a program hands it over: a sample whose figures fit their types, a frame of bytes
+abbrev pub EventTyped : Event → Type 0
+EventTyped (Event.sample s) = SampleTyped s
+EventTyped (Event.frame bytes buffer) = (i : ℕ) → getD bytes i 0 < 256
+
+-- and so each of some
+pub data AllTyped : List Event → Type 0 where
+  none : AllTyped []
+  more : {x : Event} {xs : List Event} → EventTyped x → AllTyped xs → AllTyped (x ∷ xs)
+
+-- STATEMENT: a new meter is as a program holds it, and such events leave it so
+pub record TypesKept : Type 0 where
+  pub new : (address : ℕ) (r : Ratios) → Typed (newOf address r .meter)
+  pub event : (m : Meter) (x : Event) → Typed m → EventTyped x → Typed (afterEvent m x)
+  pub events : (m : Meter) (xs : List Event) → Typed m → AllTyped xs → Typed (afterAll m xs)
 
 -- STATEMENT: after any events a record is still within limits, its address and ratios are as they were, and each energy, Wh × 360,000 + remainder,
 -- has grown by the exact energy of the samples accepted

@@ -3,6 +3,7 @@ pub mod RoundTrip
 pub mod Polled
 pub mod Histories
 pub mod Demand3
+pub mod NotEmpty
 pub mod Determined
 pub mod Starred
 pub mod ShutOut

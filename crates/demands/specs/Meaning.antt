@@ -91,7 +91,3 @@ meanings m =
 -- the reading of a quantity
 unfoldable pub meaningOf : Meter → ℕ → Quantity
 meaningOf m q = getD (getD (meanings m) (q / 64) []) (q % 64) (read.Plain 0)
-
--- STATEMENT: what a meter within limits shows of an item is read, at its ratios, as just that
-pub record ShownIsRead : Type 0 where
-  pub items : (m : Meter) → Typed m → meterOk m ≡ true → (i : ℕ) → i < length directory → readingOf (meterT m) (getD directory i none) (shownOf m (getD directory i none .quantity)) ≡ Reading (meaningOf m (getD directory i none .quantity))

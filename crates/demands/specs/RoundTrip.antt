@@ -6,21 +6,20 @@ use Prim.Native.Nat.{ℕ, _≤_, _<_}
 use mathlib.Core.Bool.{true, false}
 use mathlib.Core.List.{List, []}
 use lib.ListN.{length, take}
-use Rattle.refusal.specs.declared.Refusal.the-variants.{NotARead, IndexPastItems}
-use Rattle.refusal.specs.declared.ErrorCode.{ErrorCode}
+use Rattle.refusal.specs.Numbers.{refusedBy, errorBy}
 use Rattle.ratio.specs.declared.Ratios.{Ratios}
 use Rattle.ratio.specs.Ratios.{ratiosOk}
 use Rattle.modbus.specs.Frame.{addressOf, isRead}
-use Rattle.modbus.specs.Replies.{errorReply}
+use Rattle.modbus.specs.Replies.{errorBytes}
 use Rattle.meter.specs.declared.Meter.{Meter}
 use Rattle.meter.specs.Meters.{meterOk}
 use Rattle.registers.specs.Cases.{Typed}
 use Rattle.board.specs.declared.Reply.{Reply}
 use Rattle.board.specs.declared.Reply.the-variants as board
 use Rattle.board.specs.Board.{boardOf}
-use Rattle.reading.specs.declared.Answer.the-variants.{Reading, Error, Refused}
+use Rattle.reading.specs.declared.Answer.the-variants.{Reading}
 use Rattle.collector.specs.Collector.{collectorOf}
-use Rattle.collector.specs.Answers.{Asks, Asked, itemAt}
+use Rattle.collector.specs.Answers.{Asks, Asked, itemAt, Comes}
 use Rattle.demands.specs.Meaning.{meaningOf}
 
 -- the bytes of a reply, at the start of the buffer; none where there is no reply
@@ -49,6 +48,6 @@ pub record WithData : Type 0 where
 -- is 7, whatever the reply
 pub record RoundTrip : Type 0 where
   pub reads : (m : Meter) (request b : List ℕ) (index : ℕ) → Typed m → Meets m request b → (a : Asks request) → index < a .count → collectorOf request (replyTo m request b) (m .ratios) index ≡ Reading (meaningOf m (itemAt a index .quantity))
-  pub past : (m : Meter) (request b : List ℕ) (index : ℕ) → Meets m request b → (a : Asks request) → a .count ≤ index → collectorOf request (replyTo m request b) (m .ratios) index ≡ Refused IndexPastItems
-  pub error : (request : List ℕ) (r : Ratios) (index : ℕ) (code : ErrorCode) → Asked request r → collectorOf request (errorReply request code) r index ≡ Error code
-  pub other : (m : Meter) (request b reply : List ℕ) (r : Ratios) (index : ℕ) → Meets m request b → ratiosOk r ≡ true → isRead (replyTo m request b) ≡ false → collectorOf request reply r index ≡ Refused NotARead
+  pub past : (m : Meter) (request b : List ℕ) (index : ℕ) → Meets m request b → (a : Asks request) → a .count ≤ index → Comes request (replyTo m request b) (m .ratios) index (refusedBy 12)
+  pub error : (request : List ℕ) (r : Ratios) (index code : ℕ) → Asked request r → 1 ≤ code → code ≤ 3 → Comes request (errorBytes request code) r index (errorBy code)
+  pub other : (m : Meter) (request b reply : List ℕ) (r : Ratios) (index : ℕ) → Meets m request b → ratiosOk r ≡ true → isRead (replyTo m request b) ≡ false → Comes request reply r index (refusedBy 7)

@@ -61,6 +61,11 @@ lineOf line room = cond (lineOk line) (Frame (min (length (bytesOf line)) room))
 abbrev pub frameOver : List ℕ → List ℕ → List ℕ
 frameOver line buffer = cond (lineOk line) (over (take (length buffer) (bytesOf line)) buffer) buffer
 
+-- all that the contract of `frame` allows: its answer, and every byte of the buffer
+pub record FrameRead (line before : List ℕ) (answer : Line) (after : List ℕ) : Type 0 where
+  pub told : answer ≡ lineOf line (length before)
+  pub bytes : after ≡ frameOver line before
+
 -- a hex digit, in capitals
 abbrev pub capital : ℕ → ℕ
 capital d = cond (ltb d 10) (0x30 + d) (0x37 + d)
@@ -82,6 +87,11 @@ textLength bytes room = cond (textFits bytes room) (length (textOf bytes)) 0
 -- the buffer then
 abbrev pub textOver : List ℕ → List ℕ → List ℕ
 textOver bytes buffer = cond (textFits bytes (length buffer)) (over (textOf bytes) buffer) buffer
+
+-- all that the contract of `text` allows: its answer, and every byte of the buffer
+pub record TextPut (frame before : List ℕ) (answer : ℕ) (after : List ℕ) : Type 0 where
+  pub told : answer ≡ textLength frame (length before)
+  pub bytes : after ≡ textOver frame before
 
 -- STATEMENT: what is written as a line is read as the same bytes
 pub record TextBack : Type 0 where

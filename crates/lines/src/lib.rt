@@ -5,7 +5,7 @@ ghost use mathlib.Core.Bool.{true};
 ghost use mathlib.Core.List.{[], _∷_};
 ghost use lib.ListN.{length, take, drop};
 ghost use lib.Seq.{sets};
-ghost use Rattle.lines.specs.Lines.{lineLength, digitOf, pairOk, byteOf, bytesOf, lineOk, lineOf, over, frameOver, capital, textOf, textLength, textOver};
+ghost use Rattle.lines.specs.Lines.{lineLength, digitOf, pairOk, byteOf, bytesOf, lineOk, over, FrameRead, capital, textOf, TextPut};
 
 pub const LINE_FEED: u8 = 0x0A;
 
@@ -62,8 +62,7 @@ fn byte_of(upper: u8, lower: u8) -> u8
 
 // Puts the frame that a line holds at the start of the buffer, as much of it as there is room for.
 pub fn frame(line: &[u8], buffer: &mut [u8]) -> Line
-    ensures { λ r. ⌜ r ≡ lineOf (now (line .entry)) (length (now (buffer .entry))) ⌝ }
-    ensures { λ _. ⌜ now (buffer .exit) ≡ frameOver (now (line .entry)) (now (buffer .entry)) ⌝ }
+    ensures { λ r. ⌜ FrameRead (now (line .entry)) (now (buffer .entry)) r (now (buffer .exit)) ⌝ }
 {
     if line_ok(line) {
         Line::Frame(put_bytes(line, buffer))
@@ -118,8 +117,7 @@ fn least(a: usize, b: usize) -> usize
 // Puts bytes as hex pairs in capitals at the start of the buffer, and answers how many characters they are. Without room for
 // three characters a byte it changes nothing and answers 0.
 pub fn text(bytes: &[u8], buffer: &mut [u8]) -> usize
-    ensures { λ r. ⌜ r ≡ textLength (now (bytes .entry)) (length (now (buffer .entry))) ⌝ }
-    ensures { λ _. ⌜ now (buffer .exit) ≡ textOver (now (bytes .entry)) (now (buffer .entry)) ⌝ }
+    ensures { λ r. ⌜ TextPut (now (bytes .entry)) (now (buffer .entry)) r (now (buffer .exit)) ⌝ }
 {
     let n = bytes.len();
     if n == 0 {

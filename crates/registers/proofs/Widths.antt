@@ -158,8 +158,8 @@ module _ (m : Meter) (typed : Typed m) (h : meterOk m ≡ true) where
   plain-fits : Fit (plainValues m) (1 ∷ 1 ∷ 2 ∷ replicate (16 + 24) 2)
   unfolding plainValues
   plain-fits =
-      let long : length (m .standard ++ m .output) ≡ 40 = rw (length-append, typed .standard, typed .output) refl in
-      (omega arith, (omega arith, (omega arith, all-fit 2 40 (m .standard ++ m .output) long (append-fits 2 (m .standard) (m .output) (typed .first) (typed .second)))))
+      let long : length (m .standard ++ m .output) ≡ 40 = rw (length-append, typed .standard .long, typed .output .long) refl in
+      (omega arith, (omega arith, (omega arith, all-fit 2 40 (m .standard ++ m .output) long (append-fits 2 (m .standard) (m .output) (typed .standard .word) (typed .output .word)))))
 
   ratio-tops : (m .ratios .kta ≤ 9999) × (m .ratios .ktv ≤ 9999)
   ratio-tops =
@@ -171,8 +171,8 @@ module _ (m : Meter) (typed : Typed m) (h : meterOk m ≡ true) where
   unfolding powerValues signedValues signValues countValues lowValues highValues wrapValues
   values-fit =
       tt also
-      all-fit 4 6 (m .latest .voltages) (typed .voltages) (typed .voltage) also
-      all-fit 4 4 (m .latest .currents) (typed .currents) (typed .current) also
+      all-fit 4 6 (m .latest .voltages) (typed .latest .voltages) (typed .latest .voltage) also
+      all-fit 4 4 (m .latest .currents) (typed .latest .currents) (typed .latest .current) also
       all-fit 4 10 (powerValues m) refl power-fits also
       all-fit 4 8 (signedValues m) refl signed-fits also
       all-fit 4 4 (countValues m) refl (count-fits m h) also
@@ -182,7 +182,7 @@ module _ (m : Meter) (typed : Typed m) (h : meterOk m ≡ true) where
       factor-fits also
       all-fit 1 8 (signValues m) refl sign-fits also
       (omega (arith, parts .sector), tt) also
-      (typed .frequency, tt) also
+      (typed .latest .frequency, tt) also
       (omega (arith, ratio-tops), tt) also
       (omega (arith, ratio-tops), tt) also
       (omega (arith, two-at-most (m .latest .sequence) (parts .sequence)), tt) also

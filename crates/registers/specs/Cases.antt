@@ -8,21 +8,29 @@ use Rattle.directory.specs.Item.{none}
 use Rattle.directory.specs.Quantity.{widthOf}
 use Rattle.directory.specs.Order.{roomOf}
 use Rattle.directory.specs.Table.{directory}
+use Rattle.meter.specs.declared.samples.Sample.{Sample}
 use Rattle.meter.specs.declared.Meter.{Meter}
 use Rattle.meter.specs.Meters.{meterOk, withSetup}
 use Rattle.registers.specs.Shown.{valuesOf, shownOf}
 
--- a record as a program holds it: its arrays have the lengths of their types, and its numbers their widths
+-- a sample as a program holds it: its arrays have the lengths of their types, and its numbers their widths
+pub record SampleTyped (s : Sample) : Type 0 where
+  pub voltages : length (s .voltages) ≡ 6
+  pub currents : length (s .currents) ≡ 4
+  pub voltage : (i : ℕ) → getD (s .voltages) i 0 < 256 ^ 4
+  pub current : (i : ℕ) → getD (s .currents) i 0 < 256 ^ 4
+  pub frequency : s .frequency < 256 ^ 2
+
+-- setup words as a program holds them: so many, each of two bytes
+pub record WordsTyped (n : ℕ) (words : List ℕ) : Type 0 where
+  pub long : length words ≡ n
+  pub word : (i : ℕ) → getD words i 0 < 256 ^ 2
+
+-- and a record
 pub record Typed (m : Meter) : Type 0 where
-  pub voltages : length (m .latest .voltages) ≡ 6
-  pub currents : length (m .latest .currents) ≡ 4
-  pub standard : length (m .standard) ≡ 16
-  pub output : length (m .output) ≡ 24
-  pub voltage : (i : ℕ) → getD (m .latest .voltages) i 0 < 256 ^ 4
-  pub current : (i : ℕ) → getD (m .latest .currents) i 0 < 256 ^ 4
-  pub frequency : m .latest .frequency < 256 ^ 2
-  pub first : (i : ℕ) → getD (m .standard) i 0 < 256 ^ 2
-  pub second : (i : ℕ) → getD (m .output) i 0 < 256 ^ 2
+  pub latest : SampleTyped (m .latest)
+  pub standard : WordsTyped 16 (m .standard)
+  pub output : WordsTyped 24 (m .output)
 
 -- STATEMENT: a quantity of the directory is one of its kind's values; what a meter within limits shows of it fits its bytes, and the item
 pub record EveryCase : Type 0 where

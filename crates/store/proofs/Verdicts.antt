@@ -8,7 +8,9 @@ use native.Mathlib.Omega.{arith}
 use lib.Dec.{eqb}
 use borrow.Author.Tests.{eqb-true}
 use Rattle.refusal.specs.declared.ErrorCode.{ErrorCode}
-use Rattle.refusal.specs.declared.ErrorCode.the-variants.{Function, Address, Data}
+use Rattle.refusal.specs.declared.ErrorCode.the-variants.{Address, Data}
+use Rattle.refusal.specs.Numbers.{errorBy}
+use Rattle.refusal.proofs.Distinct.{one-reason-each, caseIn, numberIn}
 use Rattle.setup.specs.Ranges.{groupOk}
 use Rattle.modbus.specs.declared.Verdict.{Verdict}
 use Rattle.modbus.specs.declared.Verdict.the-variants.{Good, Wrong}
@@ -18,7 +20,7 @@ use Rattle.meter.specs.Meters.{meterOk, withSetup}
 use Rattle.meter.proofs.Parts.{meter-parts}
 use Rattle.meter.proofs.Answers.{other-within}
 use Rattle.store.specs.declared.Written.{Written}
-use Rattle.store.specs.Writes.{toStandard, toOutput, groupWords, storedOf, wrongOf, writtenOf, toGroup, fits, WriteWhen}
+use Rattle.store.specs.Writes.{toStandard, toOutput, groupWords, storedOf, wrongOf, writtenOf, toGroup, fits, verdictTold, WriteWhen}
 
 -- what the tests lead to: a shaped, p to a group, n its words, g its values; m is the meter, k the meter with it stored
 abbrev judged : Bool → Bool → Bool → Bool → Meter → Meter → Written
@@ -29,15 +31,12 @@ judged a p n g m k =
     (cond (not g) (wrongOf m Data)
     (record { verdict = Good; meter = k }))))
 
--- no two verdicts are the same
-data-address : {A : Type 0} → Wrong Data ≡ Wrong Address → A
-data-address e = let z : _≡_ {A = ℕ} 0 1 = cc in let y : ⊥ = omega arith in absurd y
-
-data-function : {A : Type 0} → Wrong Data ≡ Wrong Function → A
-data-function e = let z : _≡_ {A = ℕ} 0 1 = cc in let y : ⊥ = omega arith in absurd y
-
-address-function : {A : Type 0} → Wrong Address ≡ Wrong Function → A
-address-function e = let z : _≡_ {A = ℕ} 0 1 = cc in let y : ⊥ = omega arith in absurd y
+-- the numbers of a verdict give it back
+pub verdict-back : (a b : Verdict) → verdictTold a ≡ verdictTold b → a ≡ b
+verdict-back Good Good e = refl
+verdict-back Good (Wrong c) e = absurd (omega (arith, ap caseIn e))
+verdict-back (Wrong c) Good e = absurd (omega (arith, ap caseIn e))
+verdict-back (Wrong c) (Wrong d) e = ap Wrong (one-reason-each .errors c d (ap numberIn e))
 
 pub wrong-good : {A : Type 0} {code : ErrorCode} → Wrong code ≡ Good → A
 wrong-good e = let z : _≡_ {A = ℕ} 0 1 = cc in let y : ⊥ = omega arith in absurd y
@@ -54,22 +53,22 @@ module _ (m k : Meter) where
   three true false n g = refl
   three false p n g = refl
 
-  address-when : (a p f : Bool) → (by-three a p f .verdict ≡ Wrong Address) ↔ ((a ≡ true) × (p ≡ false))
-  address-when true true true = (λ h. wrong-good (sym h), λ h. absurd (false≢true (sym (h .1))))
-  address-when true true false = (λ h. data-address h, λ h. absurd (false≢true (sym (h .1))))
+  address-when : (a p f : Bool) → (verdictTold (by-three a p f .verdict) ≡ errorBy 2) ↔ ((a ≡ true) × (p ≡ false))
+  address-when true true true = (λ h. absurd (omega (arith, ap caseIn h)), λ h. absurd (false≢true (sym (h .1))))
+  address-when true true false = (λ h. absurd (omega (arith, ap numberIn h)), λ h. absurd (false≢true (sym (h .1))))
   address-when true false f = (λ h. (refl, refl), λ h. refl)
-  address-when false p f = (λ h. data-address h, λ h. absurd (false≢true (h .0)))
+  address-when false p f = (λ h. absurd (omega (arith, ap numberIn h)), λ h. absurd (false≢true (h .0)))
 
-  data-when : (a p f : Bool) → (by-three a p f .verdict ≡ Wrong Data) ↔ ((a ≡ false) ⊎ ((p ≡ true) × (f ≡ false)))
-  data-when true true true = (λ h. wrong-good (sym h), no)
+  data-when : (a p f : Bool) → (verdictTold (by-three a p f .verdict) ≡ errorBy 3) ↔ ((a ≡ false) ⊎ ((p ≡ true) × (f ≡ false)))
+  data-when true true true = (λ h. absurd (omega (arith, ap caseIn h)), no)
     where
-      no : ((true ≡ false) ⊎ ((true ≡ true) × (true ≡ false))) → Good ≡ Wrong Data
+      no : ((true ≡ false) ⊎ ((true ≡ true) × (true ≡ false))) → verdictTold Good ≡ errorBy 3
       no (inl h) = absurd (false≢true (sym h))
       no (inr h) = absurd (false≢true (sym (h .1)))
   data-when true true false = (λ h. inr (refl, refl), λ h. refl)
-  data-when true false f = (λ h. data-address (sym h), no)
+  data-when true false f = (λ h. absurd (omega (arith, ap numberIn h)), no)
     where
-      no : ((true ≡ false) ⊎ ((false ≡ true) × (f ≡ false))) → Wrong Address ≡ Wrong Data
+      no : ((true ≡ false) ⊎ ((false ≡ true) × (f ≡ false))) → errorBy 2 ≡ errorBy 3
       no (inl h) = absurd (false≢true (sym h))
       no (inr h) = absurd (false≢true (h .0))
   data-when false p f = (λ h. inl refl, λ h. refl)
@@ -80,11 +79,11 @@ module _ (m k : Meter) where
   good-when true false f = (λ h. wrong-good h, λ h. absurd (false≢true (h .1)))
   good-when false p f = (λ h. wrong-good h, λ h. absurd (false≢true (h .0)))
 
-  not-function : (a p f : Bool) → by-three a p f .verdict ≡ Wrong Function → ⊥
-  not-function true true true h = wrong-good (sym h)
-  not-function true true false h = data-function h
-  not-function true false f h = address-function h
-  not-function false p f h = data-function h
+  only-these : (a p f : Bool) (n : ℕ) → verdictTold (by-three a p f .verdict) ≡ errorBy n → (n ≡ 2) ⊎ (n ≡ 3)
+  only-these true true true n h = absurd (omega (arith, ap caseIn h))
+  only-these true true false n h = inr (sym (ap numberIn h))
+  only-these true false f n h = inl (sym (ap numberIn h))
+  only-these false p f n h = inr (sym (ap numberIn h))
 
   keeps : (a p f : Bool) (code : ErrorCode) → by-three a p f .verdict ≡ Wrong code → by-three a p f .meter ≡ m
   keeps true true true code h = wrong-good (sym h)
@@ -109,7 +108,7 @@ write-when =
       error-02 = λ m frame. rw (is-judged m frame) (address-when m (storedOf m frame) (writeShaped frame) (toGroup frame) (fits frame));
       error-03 = λ m frame. rw (is-judged m frame) (data-when m (storedOf m frame) (writeShaped frame) (toGroup frame) (fits frame));
       legal = λ m frame. rw (is-judged m frame) (good-when m (storedOf m frame) (writeShaped frame) (toGroup frame) (fits frame));
-      never = λ m frame. rw (is-judged m frame) (not-function m (storedOf m frame) (writeShaped frame) (toGroup frame) (fits frame));
+      only = λ m frame. rw (is-judged m frame) (only-these m (storedOf m frame) (writeShaped frame) (toGroup frame) (fits frame));
       kept = λ m frame. rw (is-judged m frame) (keeps m (storedOf m frame) (writeShaped frame) (toGroup frame) (fits frame));
       stored = λ m frame. rw (is-judged m frame) (stores m (storedOf m frame) (writeShaped frame) (toGroup frame) (fits frame));
     }

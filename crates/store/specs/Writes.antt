@@ -3,10 +3,11 @@ use mathlib.Core.Path.{_≡_}
 use Prim.Native.Nat.{ℕ}
 use mathlib.Core.Logic.{_↔_, _⊎_}
 use mathlib.Core.Bool.{Bool, true, false, _&&_, _||_, not, cond}
-use mathlib.Core.List.{List}
+use mathlib.Core.List.{List, [], _∷_}
 use lib.Dec.{eqb}
 use Rattle.refusal.specs.declared.ErrorCode.{ErrorCode}
-use Rattle.refusal.specs.declared.ErrorCode.the-variants.{Function, Address, Data}
+use Rattle.refusal.specs.declared.ErrorCode.the-variants.{Address, Data}
+use Rattle.refusal.specs.Numbers.{errorNumber, errorBy}
 use Rattle.setup.specs.Ranges.{groupOk}
 use Rattle.modbus.specs.declared.Verdict.{Verdict}
 use Rattle.modbus.specs.declared.Verdict.the-variants.{Good, Wrong}
@@ -66,11 +67,16 @@ writeReply frame Good = echoReply frame
 abbrev pub fits : List ℕ → Bool
 fits frame = eqb (wordNumber frame) (groupWords frame) && groupOk (startOf frame) (valuesOf frame)
 
--- STATEMENT: of a write, error 02 and error 03 are due exactly when, and it is stored exactly when neither is; error 01 never is
+-- a verdict in numbers: 0; the error code
+abbrev pub verdictTold : Verdict → List ℕ
+verdictTold Good = 0 ∷ []
+verdictTold (Wrong code) = errorBy (errorNumber code)
+
+-- STATEMENT: of a write, error 02 and error 03 are due exactly when, and no other; it is stored exactly when neither is
 pub record WriteWhen : Type 0 where
-  pub error-02 : (m : Meter) (frame : List ℕ) → (writtenOf m frame .verdict ≡ Wrong Address) ↔ ((writeShaped frame ≡ true) × (toGroup frame ≡ false))
-  pub error-03 : (m : Meter) (frame : List ℕ) → (writtenOf m frame .verdict ≡ Wrong Data) ↔ ((writeShaped frame ≡ false) ⊎ ((toGroup frame ≡ true) × (fits frame ≡ false)))
+  pub error-02 : (m : Meter) (frame : List ℕ) → (verdictTold (writtenOf m frame .verdict) ≡ errorBy 2) ↔ ((writeShaped frame ≡ true) × (toGroup frame ≡ false))
+  pub error-03 : (m : Meter) (frame : List ℕ) → (verdictTold (writtenOf m frame .verdict) ≡ errorBy 3) ↔ ((writeShaped frame ≡ false) ⊎ ((toGroup frame ≡ true) × (fits frame ≡ false)))
   pub legal : (m : Meter) (frame : List ℕ) → (writtenOf m frame .verdict ≡ Good) ↔ ((writeShaped frame ≡ true) × (toGroup frame ≡ true) × (fits frame ≡ true))
-  pub never : (m : Meter) (frame : List ℕ) → writtenOf m frame .verdict ≡ Wrong Function → ⊥
+  pub only : (m : Meter) (frame : List ℕ) (n : ℕ) → verdictTold (writtenOf m frame .verdict) ≡ errorBy n → (n ≡ 2) ⊎ (n ≡ 3)
   pub kept : (m : Meter) (frame : List ℕ) (code : ErrorCode) → writtenOf m frame .verdict ≡ Wrong code → writtenOf m frame .meter ≡ m
   pub stored : (m : Meter) (frame : List ℕ) → writtenOf m frame .verdict ≡ Good → writtenOf m frame .meter ≡ storedOf m frame

@@ -64,7 +64,7 @@ slice-aggregate-tell : tie.Need-slice-aggregate-tell
 slice-aggregate-tell c = search needs
 
 tell-requires : tie.Need-tell-requires
-tell-requires c κs = (search needs, λ n e. omega (arith, reply-long _ _ _ (c .before .before .handle .ensures .0) e))
+tell-requires c κs = (search needs, λ n e. omega (arith, reply-long _ _ _ (c .before .before .handle .ensures .handled) e))
 
 returns-2 : tie.Need-returns-2
 returns-2 c = search needs

@@ -22,7 +22,7 @@ text-most bytes room h = by (textFits bytes room)
 written : (p : tie.After-text2) → p .text2 .result ≤ 767
 written p =
     let s = p .before .before .before in
-    omega (arith, p .text2 .ensures .0, text-most (s .args .reply .now) 769 (s .pre))
+    omega (arith, p .text2 .ensures .told, text-most (s .args .reply .now) 769 (s .pre))
 
 slice-aggregate-text : tie.Need-slice-aggregate-text
 slice-aggregate-text c = search needs

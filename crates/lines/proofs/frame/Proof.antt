@@ -20,7 +20,7 @@ returns c =
     let p = c .before .before in
     let s = p .before .before .before .before .before .before in
     let ok : lineOk (s .args .line .now) ≡ true = cc in
-    (simp (ok, p .put-bytes .ensures .0), simp (ok, p .put-bytes .ensures .1))
+    record { told = simp (ok, p .put-bytes .ensures .0); bytes = simp (ok, p .put-bytes .ensures .1) }
 
 returns-2 : tie.Need-returns-2
 returns-2 c = search needs

@@ -6,29 +6,29 @@ use native.Mathlib.Omega.{arith}
 use lib.ListN.{length}
 use borrow.Author.Needs.{needs}
 use borrow.Author.Tests.{le-leb, lt-leb}
-use Rattle.lines.specs.Lines.{over, textOf, textLength, textOver}
+use Rattle.lines.specs.Lines.{over, textOf, TextPut}
 use Rattle.lines.proofs.Laws.{nothing}
 use Rattle.lines.proofs.Texts.{text-length}
 use Rattle.lines.proofs.text.Statement.{statement}
 use Rattle.lines.proofs.text.Tie as tie
 
 module _ (bytes buffer : List ℕ) where
-  empty : length bytes ≡ 0 → (0 ≡ textLength bytes (length buffer)) × (buffer ≡ textOver bytes buffer)
+  empty : length bytes ≡ 0 → TextPut bytes buffer 0 buffer
   unfolding textOf
   empty h =
       let e : bytes ≡ [] = nothing bytes h in
       let t = le-leb 0 (length buffer) (omega arith) in
-      (rw e (simp t), rw e (simp t))
+      record { told = rw e (simp t); bytes = rw e (simp t) }
 
-  no-room : length buffer < 3 * length bytes → (0 ≡ textLength bytes (length buffer)) × (buffer ≡ textOver bytes buffer)
+  no-room : length buffer < 3 * length bytes → TextPut bytes buffer 0 buffer
   no-room h =
       let t = lt-leb (3 * length bytes) (length buffer) h in
-      (simp t, simp t)
+      record { told = simp t; bytes = simp t }
 
-  room : 3 * length bytes ≤ length buffer → (3 * length bytes - 1 ≡ textLength bytes (length buffer)) × (over (textOf bytes) buffer ≡ textOver bytes buffer)
+  room : 3 * length bytes ≤ length buffer → TextPut bytes buffer (3 * length bytes - 1) (over (textOf bytes) buffer)
   room h =
       let t = le-leb (3 * length bytes) (length buffer) h in
-      (simp (t, text-length), simp t)
+      record { told = simp (t, text-length); bytes = simp t }
 
 returns : tie.Need-returns
 returns c =
@@ -57,7 +57,7 @@ returns-3 c =
     let p = c .before .before in
     let s = p .before .before .before .before .before .before in
     let r = room (s .args .bytes .now) (s .args .buffer .now) (omega arith) in
-    (r .0, p .put-text .ensures ∙ r .1)
+    record { told = r .told; bytes = p .put-text .ensures ∙ r .bytes }
 
 pub text-spec : {M : Type 1} → statement M
 text-spec =

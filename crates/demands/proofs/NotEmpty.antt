@@ -1,0 +1,71 @@
+-- A history is made of what it asks for, and the read of one item polls it; after typed events a record is as a program holds it, so the round trip holds of it.
+use mathlib.Core.Path.{_≡_, refl, sym, ap, _∙_}
+use mathlib.Core.Bool.{Bool, false}
+use mathlib.Core.List.{List, [], _∷_}
+use Prim.Native.Nat.{ℕ, _≤_, _<_}
+use native.Mathlib.Omega.{arith}
+use lib.ListN.{length, getD, replicate}
+use Rattle.ratio.specs.declared.Ratios.{Ratios}
+use Rattle.directory.specs.Item.{none}
+use Rattle.directory.specs.Table.{directory}
+use Rattle.reading.specs.declared.Answer.the-variants.{Reading}
+use Rattle.collector.specs.Collector.{collectorOf}
+use Rattle.meter.specs.declared.Answer.the-variants.{Accepted}
+use Rattle.meter.specs.declared.Meter.{Meter}
+use Rattle.meter.specs.Meters.{newOf}
+use Rattle.meter.proofs.Answers.{new-answers, new-blank}
+use Rattle.demands.specs.Meaning.{meaningOf}
+use Rattle.demands.specs.RoundTrip.{replyTo, Meets}
+use Rattle.demands.specs.Polled.{requestFor}
+use Rattle.demands.specs.Histories.{Event, afterEvent, afterAll, anyTaken, AllTyped}
+use Rattle.demands.specs.Demand3.{Poll, collected}
+use Rattle.demands.specs.NotEmpty.{frames, ItemPoll, NotEmpty, ReadsAlways}
+use Rattle.demands.proofs.Polls.{round-trip}
+use Rattle.demands.proofs.Polled.{every-item-polled}
+use Rattle.demands.proofs.Histories.{after-events}
+use Rattle.demands.proofs.Types.{types-kept}
+
+-- a frame is no sample
+idle : (m : Meter) (buffer : List ℕ) (fs : List (List ℕ)) → anyTaken m (frames buffer fs) ≡ false
+unfolding anyTaken
+idle m buffer [] = refl
+idle m buffer (f ∷ fs) = idle (afterEvent m (Event.frame f buffer)) buffer fs
+
+-- the read of one item
+poll : (address i : ℕ) → 1 ≤ address → i < length directory → ItemPoll address i
+poll address i some l = (
+  record {
+    request = requestFor address (getD directory i none);
+    buffer = replicate 256 0;
+    index = 0;
+    asks = record { hears = every-item-polled .hears address i some l; first = i; count = 1; items = every-item-polled .items address i l };
+    own = refl;
+    room = omega arith;
+    below = omega arith;
+    shows = ap (λ (k : ℕ). getD directory k none .quantity) (omega arith);
+  },
+  omega arith,
+)
+
+pub not-empty : NotEmpty
+not-empty = record {
+  history = λ address r events between made still. (record { address = address; ratios = r; made = made; events = events; between = between; idle = still }, refl, refl, refl, refl);
+  idle = idle;
+  poll = poll;
+}
+
+-- ---- the round trip over histories
+
+polls : (address : ℕ) (r : Ratios) (xs : List Event) → newOf address r .answer ≡ Accepted → AllTyped xs → (q : ℕ) (p : Poll address q) → collected r (afterAll (newOf address r .meter) xs) p ≡ Reading (meaningOf (afterAll (newOf address r .meter) xs) q)
+polls address r xs made typed q p =
+    let first = newOf address r .meter in
+    let m = afterAll first xs in
+    let same : m .ratios ≡ r = after-events .ratios first xs ∙ ap (λ (x : Meter). x .ratios) (new-blank address r) in
+    let own : m .address ≡ address = after-events .address first xs ∙ ap (λ (x : Meter). x .address) (new-blank address r) in
+    let meets : Meets m (p .request) (p .buffer) = record { within = after-events .within first xs (new-answers .within address r .0 made); room = p .room; own = own ∙ sym (p .own) } in
+    ap (λ (x : Ratios). collectorOf (p .request) (replyTo m (p .request) (p .buffer)) x (p .index)) (sym same)
+    ∙ round-trip .reads m (p .request) (p .buffer) (p .index) (types-kept .events first xs (types-kept .new address r) typed) meets (p .asks) (p .below)
+    ∙ ap (λ (x : ℕ). Reading (meaningOf m x)) (p .shows)
+
+pub reads-always : ReadsAlways
+reads-always = record { polls = polls }

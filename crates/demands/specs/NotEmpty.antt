@@ -1,0 +1,41 @@
+-- Nothing is claimed of nothing: what `Demand3` and its like ask for can be had, for every accepted new meter, any events, every item and every own address.
+use mathlib.Core.Path.{_≡_}
+use Prim.Native.Nat.{ℕ, _+_, _≤_, _<_}
+use mathlib.Core.Bool.{false}
+use mathlib.Core.List.{List, map}
+use lib.ListN.{length, getD}
+use Rattle.ratio.specs.declared.Ratios.{Ratios}
+use Rattle.directory.specs.Item.{none}
+use Rattle.directory.specs.Table.{directory}
+use Rattle.reading.specs.declared.Answer.the-variants.{Reading}
+use Rattle.meter.specs.declared.Answer.the-variants.{Accepted}
+use Rattle.meter.specs.declared.Meter.{Meter}
+use Rattle.meter.specs.Meters.{newOf}
+use Rattle.demands.specs.Meaning.{meaningOf}
+use Rattle.demands.specs.Histories.{Event, afterAll, anyTaken, AllTyped}
+use Rattle.demands.specs.Demand3.{History, Poll, collected}
+
+-- the history of a new meter with some events, and some between the two reads
+abbrev pub HistoryOf : ℕ → Ratios → List Event → List Event → Type 0
+HistoryOf address r events between =
+    (h : History) × (h .address ≡ address) × (h .ratios ≡ r) × (h .events ≡ events) × (h .between ≡ between)
+
+-- frames, each with a buffer
+abbrev pub frames : List ℕ → List (List ℕ) → List Event
+frames buffer fs = map (λ (bytes : List ℕ). Event.frame bytes buffer) fs
+
+-- a poll of the item of an index
+abbrev pub ItemPoll : ℕ → ℕ → Type 0
+ItemPoll address i = (p : Poll address (getD directory i none .quantity)) × (p .asks .first + p .index ≡ i)
+
+-- STATEMENT: a history for every accepted new meter, all events and any without an accepted sample between; of these any frames are; a poll for every
+-- item of the directory and every own address
+pub record NotEmpty : Type 0 where
+  pub history : (address : ℕ) (r : Ratios) (events between : List Event) → newOf address r .answer ≡ Accepted → anyTaken (afterAll (newOf address r .meter) events) between ≡ false → HistoryOf address r events between
+  pub idle : (m : Meter) (buffer : List ℕ) (fs : List (List ℕ)) → anyTaken m (frames buffer fs) ≡ false
+  pub poll : (address i : ℕ) → 1 ≤ address → i < length directory → ItemPoll address i
+
+-- STATEMENT: the round trip over histories: from an accepted new meter, after any events as a program hands them over, every item that can be polled, and each
+-- of the directory can, is read as its quantity, and never refused
+pub record ReadsAlways : Type 0 where
+  pub polls : (address : ℕ) (r : Ratios) (xs : List Event) → newOf address r .answer ≡ Accepted → AllTyped xs → (q : ℕ) (p : Poll address q) → collected r (afterAll (newOf address r .meter) xs) p ≡ Reading (meaningOf (afterAll (newOf address r .meter) xs) q)
