@@ -5,7 +5,7 @@ use Rattle.words.proofs.Laws.{byte-sent, read-back}
 use Rattle.words.proofs.Signs.{signed-back}
 use Rattle.lines.proofs.Texts.{text-back}
 use Rattle.counts.proofs.Joins.{join-split}
-use Rattle.directory.proofs.Rules.{directory-rules, three-tables}
+use Rattle.directory.proofs.Rules.{directory-rules, three-tables, kinds-in-order}
 use Rattle.directory.proofs.Sends.{run-sends}
 use Rattle.modbus.proofs.Judged.{read-when}
 use Rattle.reading.proofs.Told.{one-answer-each}
@@ -49,6 +49,7 @@ ground = record {
   words = read-back;
   signed = signed-back;
   table = directory-rules;
+  kinds = kinds-in-order;
   places = three-tables;
   runs = run-sends;
   lines = text-back;

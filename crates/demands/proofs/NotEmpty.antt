@@ -12,18 +12,20 @@ use Rattle.reading.specs.declared.Answer.the-variants.{Reading}
 use Rattle.collector.specs.Collector.{collectorOf}
 use Rattle.meter.specs.declared.Answer.the-variants.{Accepted}
 use Rattle.meter.specs.declared.Meter.{Meter}
+use Rattle.meter.specs.Samples.{noSample}
 use Rattle.meter.specs.Meters.{newOf}
 use Rattle.meter.proofs.Answers.{new-answers, new-blank}
 use Rattle.demands.specs.Meaning.{meaningOf}
 use Rattle.demands.specs.RoundTrip.{replyTo, Meets}
 use Rattle.demands.specs.Polled.{requestFor}
 use Rattle.demands.specs.Histories.{Event, afterEvent, afterAll, anyTaken, AllTyped}
+use Rattle.demands.specs.Histories.AllTyped.{more, none as nothing}
 use Rattle.demands.specs.Demand3.{Poll, collected}
 use Rattle.demands.specs.NotEmpty.{frames, ItemPoll, NotEmpty, ReadsAlways}
 use Rattle.demands.proofs.Polls.{round-trip}
 use Rattle.demands.proofs.Polled.{every-item-polled}
 use Rattle.demands.proofs.Histories.{after-events}
-use Rattle.demands.proofs.Types.{types-kept}
+use Rattle.demands.proofs.Types.{zeros, blank-sample, types-kept}
 
 -- a frame is no sample
 idle : (m : Meter) (buffer : List ℕ) (fs : List (List ℕ)) → anyTaken m (frames buffer fs) ≡ false
@@ -52,6 +54,7 @@ not-empty = record {
   history = λ address r events between made still. (record { address = address; ratios = r; made = made; events = events; between = between; idle = still }, refl, refl, refl, refl);
   idle = idle;
   poll = poll;
+  typed = more {x = Event.sample noSample} blank-sample (more {x = Event.frame (0 ∷ []) []} (λ i. zeros 1 256 i (omega arith)) nothing);
 }
 
 -- ---- the round trip over histories

@@ -49,7 +49,7 @@ module _ (address : ℕ) (r : Ratios) (made : newOf address r .answer ≡ Accept
   unfolding afterAll
   kept xs =
       let x = demand-3 .register-first (told-by xs) e four register wrapped in
-      rw (joined-so xs _ _ x) (x .bounds)
+      rw (joined-so xs _ _ x) (record { above = x .bounds .above; below = omega (arith, x .bounds .below) })
 
 -- ---- others
 
@@ -80,18 +80,18 @@ unfolding stepOf
 ten = refl
 
 -- no figure keeps the bounds both before and after a whole step
-same-figure : (x y : ℕ) → x ≡ y → (a b : ℕ) → b ≡ a + 3600000 → Bounds a (stepOf (tOf bareRatios)) x → Bounds b (stepOf (tOf bareRatios)) y → ⊥
-same-figure x y e a b f p q = omega (arith, e, f, ten, p .above, q .below)
+same-figure : {a b s x y : ℕ} → Bounds a s x → Bounds b s y → b ≡ a + 3600000 → s ≡ 10 → x ≡ y → ⊥
+same-figure p q f ten e = omega (arith, p .above, q .below)
 
 ignores-samples : (figure : List Event → ℕ) → ((s : Sample) (xs : List Event) → figure (Event.sample s ∷ xs) ≡ figure xs) → KeepsBare figure → ⊥
-ignores-samples figure same keeps = same-figure (figure []) (figure one) (sym (same tenWh [])) _ _ (one-exact ∙ ap (λ (n : ℕ). n + 3600000) (sym none-exact)) (keeps []) (keeps one)
+ignores-samples figure same keeps = same-figure (keeps []) (keeps one) (omega (arith, none-exact, one-exact)) (omega (arith, ten)) (sym (same tenWh []))
 
 -- what is the same each time ignores samples
 same-each-time : (figure : List Event → ℕ) → ((xs : List Event) → figure xs ≡ figure []) → KeepsBare figure → ⊥
 same-each-time figure same = ignores-samples figure (λ s xs. same (Event.sample s ∷ xs) ∙ sym (same xs))
 
 first-only : (figure : List Event → ℕ) → ((s t : Sample) (xs : List Event) → figure (Event.sample s ∷ Event.sample t ∷ xs) ≡ figure (Event.sample s ∷ xs)) → KeepsBare figure → ⊥
-first-only figure same keeps = same-figure (figure one) (figure two) (sym (same tenWh tenWh [])) _ _ (two-exact ∙ ap (λ (n : ℕ). n + 3600000) (sym one-exact)) (keeps one) (keeps two)
+first-only figure same keeps = same-figure (keeps one) (keeps two) (omega (arith, one-exact, two-exact)) (omega (arith, ten)) (sym (same tenWh tenWh []))
 
 made-up : (t exact count wrap : ℕ) → count ≤ topCount → Bounds exact (stepOf t) (energyOf t (wrap * 100000000 + count) .0) → (count ≡ registerOf t (record { 0 = exact / 360000 }) .0) × (wrap ≡ wrapOf t (record { 0 = exact / 360000 }))
 made-up t exact count wrap top bounds =

@@ -15,5 +15,5 @@ use Rattle.collector.specs.Collector.{heard, itemOf, replyOf, collectorOf}
 use Rattle.demands.specs.Starred.{starred, ExamplesHold}
 
 pub examples-hold : ExamplesHold
-unfolding starred shift shifts crcFrom intact sent valueAt twos powerUnit stepOf directory findIn runFrom runIn wordsOf silence readIn longOf heard itemOf replyOf collectorOf bitXor
+unfolding starred shift shifts crcFrom intact sent valueAt twos powerUnit stepOf directory findIn runFrom runIn wordsOf silence readIn longOf heard itemOf replyOf collectorOf
 examples-hold = record { agree = refl }

@@ -13,7 +13,7 @@ use Rattle.modbus.specs.Frame.{wordNumber, wordsAt, valuesOf}
 use Rattle.modbus.proofs.Rows.{length-words}
 use Rattle.meter.specs.declared.samples.Sample.{Sample}
 use Rattle.meter.specs.declared.Meter.{Meter}
-use Rattle.meter.specs.Samples.{sampleOk}
+use Rattle.meter.specs.Samples.{sampleOk, noSample}
 use Rattle.meter.specs.Meters.{meterT, meterOk, blankOf, newOf}
 use Rattle.meter.specs.After.{nextOf, meterWithinTop, afterOf}
 use Rattle.meter.proofs.Cases.{chosen}
@@ -29,14 +29,17 @@ use Rattle.demands.specs.Histories.AllTyped.{none, more}
 
 -- ---- a new meter
 
-zeros : (n b i : ℕ) → 0 < b → getD (replicate n 0) i 0 < b
+pub zeros : (n b i : ℕ) → 0 < b → getD (replicate n 0) i 0 < b
 zeros zero b i h = h
 zeros (suc n) b zero h = h
 zeros (suc n) b (suc i) h = zeros n b i h
 
+pub blank-sample : SampleTyped noSample
+blank-sample = record { voltages = refl; currents = refl; voltage = λ i. zeros 6 (256 ^ 4) i (omega arith); current = λ i. zeros 4 (256 ^ 4) i (omega arith); frequency = omega arith }
+
 blank-typed : (address : ℕ) (r : Ratios) → Typed (blankOf address r)
 blank-typed address r = record {
-  latest = record { voltages = refl; currents = refl; voltage = λ i. zeros 6 (256 ^ 4) i (omega arith); current = λ i. zeros 4 (256 ^ 4) i (omega arith); frequency = omega arith };
+  latest = blank-sample;
   standard = record { long = refl; word = λ i. zeros 16 (256 ^ 2) i (omega arith) };
   output = record { long = refl; word = λ i. zeros 24 (256 ^ 2) i (omega arith) };
 }

@@ -7,6 +7,7 @@ use Rattle.lines.specs.Lines.{TextBack}
 use Rattle.counts.specs.Energies.{JoinSplit}
 use Rattle.directory.specs.Rules.{DirectoryRules, ThreeTables}
 use Rattle.directory.specs.Run.{RunSends}
+use Rattle.directory.specs.Kinds.{KindsInOrder}
 use Rattle.modbus.specs.Read.{ReadWhen}
 use Rattle.reading.specs.Cases.{OneAnswerEach}
 use Rattle.reading.specs.Impossible.{ThirteenWhen}
@@ -46,6 +47,7 @@ pub record Ground : Type 0 where
   pub words : ReadBack
   pub signed : SignedBack
   pub table : DirectoryRules
+  pub kinds : KindsInOrder
   pub places : ThreeTables
   pub runs : RunSends
   pub lines : TextBack

@@ -2,7 +2,7 @@
 use mathlib.Core.Path.{_≡_}
 use Prim.Native.Nat.{ℕ, _+_, _≤_, _<_}
 use mathlib.Core.Bool.{false}
-use mathlib.Core.List.{List, map}
+use mathlib.Core.List.{List, [], _∷_, map}
 use lib.ListN.{length, getD}
 use Rattle.ratio.specs.declared.Ratios.{Ratios}
 use Rattle.directory.specs.Item.{none}
@@ -10,6 +10,7 @@ use Rattle.directory.specs.Table.{directory}
 use Rattle.reading.specs.declared.Answer.the-variants.{Reading}
 use Rattle.meter.specs.declared.Answer.the-variants.{Accepted}
 use Rattle.meter.specs.declared.Meter.{Meter}
+use Rattle.meter.specs.Samples.{noSample}
 use Rattle.meter.specs.Meters.{newOf}
 use Rattle.demands.specs.Meaning.{meaningOf}
 use Rattle.demands.specs.Histories.{Event, afterAll, anyTaken, AllTyped}
@@ -28,12 +29,13 @@ frames buffer fs = map (λ (bytes : List ℕ). Event.frame bytes buffer) fs
 abbrev pub ItemPoll : ℕ → ℕ → Type 0
 ItemPoll address i = (p : Poll address (getD directory i none .quantity)) × (p .asks .first + p .index ≡ i)
 
--- STATEMENT: a history for every accepted new meter, all events and any without an accepted sample between; of these any frames are; a poll for every
--- item of the directory and every own address
+-- STATEMENT: a history for every accepted new meter, all events and any without an accepted sample between, as any frames are; a poll for every
+-- item of the directory and every own address; events as a program hands them over
 pub record NotEmpty : Type 0 where
   pub history : (address : ℕ) (r : Ratios) (events between : List Event) → newOf address r .answer ≡ Accepted → anyTaken (afterAll (newOf address r .meter) events) between ≡ false → HistoryOf address r events between
   pub idle : (m : Meter) (buffer : List ℕ) (fs : List (List ℕ)) → anyTaken m (frames buffer fs) ≡ false
   pub poll : (address i : ℕ) → 1 ≤ address → i < length directory → ItemPoll address i
+  pub typed : AllTyped (Event.sample noSample ∷ Event.frame (0 ∷ []) [] ∷ [])
 
 -- STATEMENT: the round trip over histories: from an accepted new meter, after any events as a program hands them over, every item that can be polled, and each
 -- of the directory can, is read as its quantity, and never refused

@@ -10,6 +10,7 @@ use Rattle.directory.specs.declared.Item.{Item}
 use Rattle.directory.specs.Item.{none, items}
 use Rattle.directory.specs.Table.{directory}
 use Rattle.directory.specs.Order.{ascends, every, ruled, shaped, meant}
+use Rattle.directory.specs.Kinds.{firstOfKind, KindsInOrder}
 use Rattle.directory.specs.Rules.{DirectoryRules, placesOf, ThreeTables}
 use Rattle.directory.proofs.Flat.{items-length}
 use Rattle.directory.proofs.Order.{every-at, apart, Narrow, ruled-ascends, ruled-narrow}
@@ -57,3 +58,7 @@ module _ (t : List ℕ) (e : items t ≡ directory) where
 pub three-tables : ThreeTables
 unfolding placesOf directory
 three-tables = record { at-posEa = refl; at-posEr = refl; at-negEa = refl; at-negEr = refl }
+
+pub kinds-in-order : KindsInOrder
+unfolding firstOfKind directory
+kinds-in-order = record { first = refl; energies = refl; others = refl; last = refl }
