@@ -26,7 +26,7 @@ use Rattle.meter.specs.Meters.{meterT, meterOk, energyAt}
 use Rattle.meter.proofs.Parts.{SampleParts, sample-parts, meter-parts, ratio-parts}
 use Rattle.registers.specs.Shown.{powersOf, powerAt, powerValues, signedValues, signValues, countValues, lowValues, highValues, wrapValues, factorValues, plainValues, valuesOf, shownOf}
 use Rattle.registers.proofs.Values.{count-at, low-at, high-at, energy-most, signed-at, sign-at, power-most}
-use Rattle.registers.proofs.Widths.{Shows, in-room, typed-shows}
+use Rattle.registers.proofs.Widths.{Shows, in-room}
 use Rattle.reading.specs.declared.Quantity.{Quantity}
 use Rattle.reading.specs.declared.Quantity.the-variants as read
 use Rattle.reading.specs.declared.Answer.{Answer}

@@ -1,6 +1,5 @@
 -- Both sides are computed.
 use mathlib.Core.Path.{refl}
-use lib.Bits.{bitXor}
 use Rattle.crc.specs.Crc.{shift, shifts, crcFrom, intact}
 use Rattle.words.specs.Words.{sent, valueAt}
 use Rattle.words.specs.Signed.{twos}

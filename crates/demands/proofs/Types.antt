@@ -6,7 +6,7 @@ use mathlib.Core.List.{List, [], _∷_}
 use Prim.Native.Nat.{ℕ, zero, suc, _+_, _^_, _<_}
 use native.Mathlib.Omega.{arith}
 use lib.Dec.{eqb}
-use lib.ListN.{length, getD, replicate}
+use lib.ListN.{getD, replicate}
 use borrow.Author.Tests.{eqb-true}
 use Rattle.ratio.specs.declared.Ratios.{Ratios}
 use Rattle.modbus.specs.Frame.{wordNumber, wordsAt, valuesOf}
@@ -21,11 +21,10 @@ use Rattle.meter.proofs.Answers.{new-blank}
 use Rattle.store.specs.Writes.{toStandard, groupWords, storedOf}
 use Rattle.store.proofs.Verdicts.{write-when}
 use Rattle.registers.specs.Cases.{SampleTyped, WordsTyped, Typed}
-use Rattle.board.specs.Board.{boardOf}
 use Rattle.board.specs.Answers.{Heeds, Stores}
 use Rattle.board.proofs.Answers.{untouched}
 use Rattle.demands.specs.Histories.{Event, afterEvent, afterAll, EventTyped, AllTyped, TypesKept}
-use Rattle.demands.specs.Histories.AllTyped.{none, more}
+use Rattle.demands.specs.Histories.AllTyped.{more}
 
 -- ---- a new meter
 

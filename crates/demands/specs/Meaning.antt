@@ -1,27 +1,22 @@
 -- What each quantity of a meter's record is as a reading (paper 01, "Steps of the registers" and "Collector"): said of the record and its
 -- ratios, with no bytes between. The kinds and, within a kind, the quantities stand in the order of the directory's `Quantity`.
-use mathlib.Core.Path.{_≡_}
-use Prim.Native.Nat.{ℕ, _*_, _/_, _%_, _<_}
-use mathlib.Core.Bool.{true, _&&_}
+use Prim.Native.Nat.{ℕ, _*_, _/_, _%_}
+use mathlib.Core.Bool.{_&&_}
 use mathlib.Core.List.{List, [], _∷_, _++_, map}
 use lib.Dec.{ltb}
-use lib.ListN.{length, getD}
+use lib.ListN.{getD}
 use Rattle.signed.specs.declared.Signed.{Signed}
 use Rattle.ratio.specs.Powers.{powerUnit, powerRegister, signWord}
 use Rattle.ratio.specs.Steps.{stepOf}
 use Rattle.counts.specs.Energies.{registerOf, wrapOf, lowOf, highOf, energyOf}
-use Rattle.directory.specs.Item.{none}
-use Rattle.directory.specs.Table.{directory}
 use Rattle.meter.specs.declared.energies.Energy.{Energy}
 use Rattle.meter.specs.declared.Meter.{Meter}
 use Rattle.meter.specs.Samples.{factorOf}
-use Rattle.meter.specs.Meters.{meterT, meterOk, energiesOf}
-use Rattle.registers.specs.Shown.{powersOf, plainValues, shownOf}
-use Rattle.registers.specs.Cases.{Typed}
+use Rattle.meter.specs.Meters.{meterT, energiesOf}
+use Rattle.registers.specs.Shown.{powersOf, plainValues}
 use Rattle.reading.specs.declared.Quantity.{Quantity}
 use Rattle.reading.specs.declared.Quantity.the-variants as read
-use Rattle.reading.specs.declared.Answer.the-variants.{Reading}
-use Rattle.reading.specs.Readings.{times, readingOf}
+use Rattle.reading.specs.Readings.{times}
 
 -- a power in hundredths, rounded down to the unit of its register
 abbrev pub roundedPower : ℕ → ℕ → ℕ

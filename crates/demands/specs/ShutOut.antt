@@ -15,7 +15,6 @@ use Rattle.reading.specs.declared.Answer.{Answer}
 use Rattle.reading.specs.Cases.{told}
 use Rattle.meter.specs.declared.Answer.the-variants.{Accepted}
 use Rattle.meter.specs.declared.samples.Sample.{Sample}
-use Rattle.meter.specs.declared.Meter.{Meter}
 use Rattle.meter.specs.Samples.{sampleOk, noSample}
 use Rattle.meter.specs.Meters.{newOf}
 use Rattle.meter.specs.After.{afterOf}
