@@ -1,5 +1,5 @@
--- `of` is the written CRC: after i turns, the CRC so far goes on over the bytes from i to that of them all.
-use mathlib.Core.Path.{_≡_, _∙_}
+-- `continued` is the written CRC, gone on with: after i turns, the CRC so far goes on over the bytes from i to that of them all.
+use mathlib.Core.Path.{_≡_, refl, _∙_}
 use mathlib.Core.List.{List}
 use Prim.Native.Nat.{ℕ, _-_, _+_, _≤_, _<_}
 use native.Mathlib.Numerals.{add-one}
@@ -7,24 +7,18 @@ use native.Mathlib.Omega.{arith}
 use lib.Bits.{bitXor}
 use lib.ListN.{length, getD, drop, drop-of-length-le}
 use lib.Seq.{drop-cons}
-use Rattle.crc.specs.Crc.{shifts, crcFrom, crcOf}
-use Rattle.crc.proofs.of.Statement.{statement}
-use Rattle.crc.proofs.of.Tie as tie
+use Rattle.crc.specs.Crc.{shifts, crcFrom}
+use Rattle.crc.proofs.continued.Statement.{statement}
+use Rattle.crc.proofs.continued.Tie as tie
 
 abbrev Inv-loop : tie.InvT-loop
-Inv-loop bytes crc₀ i₀ crc i = (i ≤ length bytes) × (crcFrom crc (drop i bytes) ≡ crcOf bytes)
+Inv-loop crc bytes c₀ i₀ c i = (i ≤ length bytes) × (crcFrom c (drop i bytes) ≡ crcFrom crc bytes)
 
 abbrev μ-loop : tie.MeasureT-loop
-μ-loop bytes crc₀ i₀ crc i = length bytes - i
-
-words-requires : tie.Need-words-requires Inv-loop μ-loop
-words-requires c κs = tt
-
-mul-i : tie.Need-mul-i Inv-loop μ-loop
-mul-i c = omega arith
+μ-loop crc bytes c₀ i₀ c i = length bytes - i
 
 loop-holds : tie.Need-loop-holds Inv-loop μ-loop
-loop-holds c = (omega arith, c .words .ensures)
+loop-holds c = (omega arith, refl)
 
 shared-slice-read-with-byte : tie.Need-shared-slice-read-with-byte Inv-loop μ-loop
 shared-slice-read-with-byte c = omega arith
@@ -46,7 +40,7 @@ loop-again : tie.Need-loop-again Inv-loop μ-loop
 loop-again c =
     let l = c .before .before .before .loop in (
       omega arith,
-      turn _ (l .i) (l .crc) (c .with-byte .result) (c .before .before .loop-test .taken) (c .with-byte .ensures)
+      turn _ (l .i) (l .c) (c .with-byte .result) (c .before .before .loop-test .taken) (c .with-byte .ensures)
           ∙ l .inv .1,
     )
 
@@ -55,16 +49,14 @@ unfolding crcFrom
 done bs i crc x h e = rw (drop-of-length-le bs h) at e
 
 returns : tie.Need-returns Inv-loop μ-loop
-returns c = done _ (c .before .loop .i) (c .before .loop .crc) _ (c .loop-test .left) (c .before .loop .inv .1)
+returns c = done _ (c .before .loop .i) (c .before .loop .c) _ (c .loop-test .left) (c .before .loop .inv .1)
 
-pub of-spec : {M : Type 1} → statement M
-of-spec =
+pub continued-spec : {M : Type 1} → statement M
+continued-spec =
     tie.close
     (tie.spec
     Inv-loop
     μ-loop
-    words-requires
-    mul-i
     loop-holds
     shared-slice-read-with-byte
     with-byte-requires
