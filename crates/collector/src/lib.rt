@@ -91,7 +91,7 @@ fn replied(
     if (n < REPLY_LEAST) | (modbus::FRAME_MOST < n) {
         return Answer::Refused(Refusal::ReplyLength);
     }
-    if !crc::intact(reply) {
+    if !eight::intact(reply) {
         return Answer::Refused(Refusal::ReplyCrc);
     }
     let function = reply[1];

@@ -1,4 +1,5 @@
 -- A frame passes the test exactly when it is sealed, since a frame of two bytes or more is what stands before its last two, and then those two.
+-- Whoever knows the CRC of what stands before them has only these two to look at.
 -- With room, `put` seals the first n bytes, since its two stores stand between them and what is left as it was.
 -- The CRC of bytes fits 16 bits, since neither a right shift nor an exclusive-or of 16-bit numbers makes a longer one.
 use mathlib.Core.Path.{_≡_, refl, sym, ap, ap₂, _∙_}
@@ -10,14 +11,28 @@ use lib.Bits.{bitXor, xor-lt}
 use lib.Dec.{leb, eqb, lit<}
 use lib.ListN.{length, getD, take, drop, length-append, take-append-drop, drop-of-length-le}
 use lib.Seq.{sets-eq, length-take-le, drop-cons, take-at, drop-at, getD-at, getD-append-add}
-use borrow.Author.Tests.{le-leb, eq-eqb, leb-true, eqb-true}
-use Rattle.crc.specs.Crc.{shift, shifts, crcFrom, crcOf, onLine, sealed, body, intact, CrcFits, IntactIsSealed, Put, PutSeals}
+use borrow.Author.Tests.{le-leb, lt-leb, eq-eqb, leb-true, eqb-true}
+use Rattle.crc.specs.Crc.{shift, shifts, crcFrom, crcOf, onLine, sealed, body, endsIn, intact, CrcFits, IntactIsSealed, Put, PutSeals}
+
+-- below two bytes a frame ends in no CRC, and so is not intact
+pub ends-in-none : (frame : List ℕ) (c : ℕ) → length frame < 2 → false ≡ endsIn frame c
+unfolding endsIn
+ends-in-none frame c h = simp (lt-leb 2 (length frame) h)
+
+pub short-broken : (frame : List ℕ) → length frame < 2 → false ≡ intact frame
+unfolding intact
+short-broken frame h = ends-in-none frame (crcOf (body frame)) h
+
+-- the CRC of what stands before the last two bytes is what they are held to
+pub ends-intact : (frame : List ℕ) (c : ℕ) → c ≡ crcOf (body frame) → endsIn frame c ≡ intact frame
+unfolding intact
+ends-intact frame c e = ap (endsIn frame) e
 
 pub length-sealed : (bs : List ℕ) → length (sealed bs) ≡ length bs + 2
 length-sealed bs = length-append bs (onLine (crcOf bs))
 
 passes : (bs : List ℕ) → intact (sealed bs) ≡ true
-unfolding intact
+unfolding endsIn intact
 passes bs =
     let lo = crcOf bs % 256 in
     let hi = crcOf bs / 256 in
@@ -55,7 +70,7 @@ agree a x b y t =
     (eqb-true a x (e .0), eqb-true b y (e .1))
 
 only : (frame : List ℕ) → intact frame ≡ true → frame ≡ sealed (body frame)
-unfolding intact
+unfolding endsIn intact
 only frame h =
     let t = and-eq-true-iff (leb 2 (length frame)) _ .0 h in
     let e = agree (getD frame (length frame - 2) 0) (crcOf (body frame) % 256) (getD frame (length frame - 1) 0) (crcOf (body frame) / 256) (t .1) in

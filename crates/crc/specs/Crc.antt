@@ -39,12 +39,16 @@ sealed bs = bs ++ onLine (crcOf bs)
 abbrev pub body : List ℕ → List ℕ
 body frame = take (length frame - 2) frame
 
--- the last two bytes of a frame are the CRC of what stands before them, low byte first
-unfoldable pub intact : List ℕ → Bool
-intact frame =
+-- the last two bytes of a frame are a CRC, low byte first; below two bytes it ends in none
+unfoldable pub endsIn : List ℕ → ℕ → Bool
+endsIn frame c =
     leb 2 (length frame) &&
-    (eqb (getD frame (length frame - 2) 0) (crcOf (body frame) % 256) &&
-    eqb (getD frame (length frame - 1) 0) (crcOf (body frame) / 256))
+    (eqb (getD frame (length frame - 2) 0) (c % 256) &&
+    eqb (getD frame (length frame - 1) 0) (c / 256))
+
+-- a frame ends in the CRC of what stands before that
+unfoldable pub intact : List ℕ → Bool
+intact frame = endsIn frame (crcOf (body frame))
 
 -- STATEMENT: the CRC of bytes is a number of 16 bits
 pub record CrcFits : Type 0 where

@@ -1,2 +1,1 @@
 pub mod Crc
-pub mod AtOnce

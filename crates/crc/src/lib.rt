@@ -1,33 +1,55 @@
-// The CRC that ends every frame (paper 01, "What the meter does with a frame").
-mod eight;
-
+// The CRC that ends every frame (paper 01, "What the meter does with a frame"), in the form that the paper names: over u16 with
+// shift, mask and exclusive-or.
 ghost use mathlib.Core.Path.{_≡_};
+ghost use Prim.Native.Nat.{_/_, _%_};
 ghost use lib.Bits.{bitXor};
-ghost use Rattle.crc.specs.Crc.{shift, shifts, crcOf, intact, Put};
+ghost use Rattle.crc.specs.Crc.{shift, shifts, crcFrom, crcOf, endsIn, intact, Put};
 
-// The CRC of all bytes of a slice: eight at a time while there are eight, then byte by byte.
+// The CRC of no bytes.
+pub const START: u16 = 0xFFFF;
+
+// The CRC of all bytes of a slice.
 pub fn of(bytes: &[u8]) -> u16
     ensures { λ r. ⌜ r ≡ crcOf (now (bytes .entry)) ⌝ }
 {
-    let mut crc = eight::words(bytes);
-    let mut i = bytes.len() / 8 * 8;
+    continued(START, bytes)
+}
+
+// What the CRC of bytes comes to when these follow: for a caller that took the first ones in another way.
+pub fn continued(crc: u16, bytes: &[u8]) -> u16
+    ensures { λ r. ⌜ r ≡ crcFrom crc (now (bytes .entry)) ⌝ }
+{
+    let mut c = crc;
+    let mut i: usize = 0;
     while i < bytes.len() {
-        crc = with_byte(crc, bytes[i]);
+        c = with_byte(c, bytes[i]);
         i += 1;
     }
-    crc
+    c
 }
 
 // Whether a frame's last two bytes are its CRC, low byte first.
 pub fn intact(frame: &[u8]) -> bool
     ensures { λ r. ⌜ r ≡ intact (now (frame .entry)) ⌝ }
 {
+    if frame.len() < 2 {
+        return false;
+    }
+    let end = frame.len() - 2;
+    ends_in(frame, of(&frame[..end]))
+}
+
+// Whether a frame's last two bytes are a CRC that is known, low byte first.
+pub fn ends_in(frame: &[u8], crc: u16) -> bool
+    ensures { λ r. ⌜ r ≡ endsIn (now (frame .entry)) crc ⌝ }
+{
     let n = frame.len();
     if n < 2 {
         return false;
     }
-    let crc = of(&frame[..n - 2]);
-    (frame[n - 2] as u16 == crc % 256) & (frame[n - 1] as u16 == crc / 256)
+    let first = low(crc);
+    let second = high(crc);
+    (frame[n - 2] == first) & (frame[n - 1] == second)
 }
 
 // Puts the CRC of the first n bytes behind them, if there is room, and says whether there was.
@@ -41,9 +63,23 @@ pub fn put(buf: &mut [u8], n: usize) -> bool
         return false;
     }
     let crc = of(&buf[..n]);
-    buf[n] = (crc % 256) as u8;
-    buf[n + 1] = (crc / 256) as u8;
+    let first = low(crc);
+    let second = high(crc);
+    buf[n] = first;
+    buf[n + 1] = second;
     true
+}
+
+fn low(crc: u16) -> u8
+    ensures { λ r. ⌜ r ≡ crc % 256 ⌝ }
+{
+    (crc & 0xFF) as u8
+}
+
+fn high(crc: u16) -> u8
+    ensures { λ r. ⌜ r ≡ crc / 256 ⌝ }
+{
+    (crc >> 8) as u8
 }
 
 // A byte exclusive-ored into the low half, then eight right shifts.

@@ -1,6 +1,6 @@
 -- Both sides are computed.
 use mathlib.Core.Path.{refl}
-use Rattle.crc.specs.Crc.{shift, shifts, crcFrom, intact}
+use Rattle.crc.specs.Crc.{shift, shifts, crcFrom, endsIn, intact}
 use Rattle.words.specs.Words.{sent, valueAt}
 use Rattle.words.specs.Signed.{twos}
 use Rattle.ratio.specs.Powers.{powerUnit}
@@ -14,5 +14,5 @@ use Rattle.collector.specs.Collector.{heard, itemOf, replyOf, collectorOf}
 use Rattle.demands.specs.Starred.{starred, ExamplesHold}
 
 pub examples-hold : ExamplesHold
-unfolding starred shift shifts crcFrom intact sent valueAt twos powerUnit stepOf directory findIn runFrom runIn wordsOf silence readIn longOf heard itemOf replyOf collectorOf
+unfolding starred shift shifts crcFrom endsIn intact sent valueAt twos powerUnit stepOf directory findIn runFrom runIn wordsOf silence readIn longOf heard itemOf replyOf collectorOf
 examples-hold = record { agree = refl }

@@ -18,10 +18,10 @@ no-room buf n h =
     let e = lt-leb (n + 2) (length buf) h in
     record { answer = sym e; bytes = simp e }
 
-room : (buf : List ℕ) (n r : ℕ) → n + 2 ≤ length buf → r ≡ crcOf (take n buf) → Put buf n true (set (set buf n (r % 256)) (n + 1) (r / 256))
-room buf n r h c =
+room : (buf : List ℕ) (n r first second : ℕ) → n + 2 ≤ length buf → r ≡ crcOf (take n buf) → first ≡ r % 256 → second ≡ r / 256 → Put buf n true (set (set buf n first) (n + 1) second)
+room buf n r first second h c low high =
     let e = le-leb (n + 2) (length buf) h in
-    record { answer = sym e; bytes = simp (e, c, add-one) }
+    record { answer = sym e; bytes = simp (e, low, high, c, add-one) }
 
 returns : tie.Need-returns
 returns c = no-room _ _ (omega arith)
@@ -41,14 +41,14 @@ slice-aggregate-of c = sym (length-take-le _ _ (omega arith))
 of-requires : tie.Need-of-requires
 of-requires c κs = search needs
 
-cast-buf : tie.Need-cast-buf
-cast-buf c = search needs
+low-requires : tie.Need-low-requires
+low-requires c κs = search needs
+
+high-requires : tie.Need-high-requires
+high-requires c κs = search needs
 
 slice-write-buf : tie.Need-slice-write-buf
 slice-write-buf c = search needs
-
-cast-buf-2 : tie.Need-cast-buf-2
-cast-buf-2 c = search needs
 
 add-buf : tie.Need-add-buf
 add-buf c = search needs
@@ -60,7 +60,10 @@ same-length : tie.Need-same-length
 same-length c = search needs
 
 returns-3 : tie.Need-returns-3
-returns-3 c = room _ _ (c .of .result) (omega arith) (c .of .ensures)
+returns-3 c =
+    let l = c .before in
+    let o = l .before in
+    room _ _ (o .of .result) (l .low .result) (c .high .result) (omega arith) (o .of .ensures) (l .low .ensures) (c .high .ensures)
 
 pub put-spec : {M : Type 1} → statement M
 put-spec =
@@ -72,9 +75,9 @@ put-spec =
     slice-reshare-prefix-of
     slice-aggregate-of
     of-requires
-    cast-buf
+    low-requires
+    high-requires
     slice-write-buf
-    cast-buf-2
     add-buf
     slice-write-buf-2
     same-length

@@ -5,11 +5,11 @@ use Prim.Native.Nat.{ℕ, _+_, _-_, _*_, _/_, _%_, _^_, _≤_, _<_}
 use native.Mathlib.Omega.{arith}
 use lib.Bits.{bitXor, xor-lt}
 use lib.ListN.{length, take, drop}
 use Rattle.crc.specs.Crc.{shifts, crcFrom, crcOf}
-use Rattle.crc.specs.AtOnce.{run, folded, spread, settled, number}
-use Rattle.crc.proofs.AtOnce.{eight, turn}
-use Rattle.crc.proofs.eight.words.Statement.{statement}
-use Rattle.crc.proofs.eight.words.Tie as tie
+use Rattle.eight.specs.AtOnce.{run, folded, spread, settled, number}
+use Rattle.eight.proofs.AtOnce.{eight, turn}
+use Rattle.eight.proofs.words.Statement.{statement}
+use Rattle.eight.proofs.words.Tie as tie
 
 abbrev Inv-loop : tie.InvT-loop
 Inv-loop bytes last x₀ p₀ i₀ x p i =

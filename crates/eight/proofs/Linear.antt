@@ -10,8 +10,8 @@ use lib.Bits.{bitXor, xor-comm, xor-self, xor-shr, xor-mod, xor-block, xor-shift
 use lib.Dec.{leb, eqb}
 use lib.Pow.{pow-pos}
 use borrow.Author.Tests.{leb-true, leb-false, eqb-true}
-use Rattle.crc.specs.AtOnce.{Linear, run}
-use Rattle.crc.specs.AtOnce.Linear.{it, shr, shl, low, xor, on}
+use Rattle.eight.specs.AtOnce.{Linear, run}
+use Rattle.eight.specs.AtOnce.Linear.{it, shr, shl, low, xor, on}
 
 bits-assoc : (x y z : ℕ) → x < 2 → y < 2 → z < 2 → bitXor (bitXor x y) z ≡ bitXor x (bitXor y z)
 bits-assoc zero y z hx hy hz = refl

@@ -10,10 +10,10 @@ use lib.Bits.{bitXor, xor-comm, xor-zero-r, xor-mod, shifted-half, shifted-even}
 use lib.Dec.{eqb, lit<}
 use lib.ListN.{length, take, drop, length-drop, take-append-drop}
 use lib.Seq.{length-take-le, drop-drop}
 use Rattle.crc.specs.Crc.{shift, shifts, crcFrom}
-use Rattle.crc.specs.AtOnce.{Linear, run, folded, spread, narrowed, parity, mended, settled, number}
-use Rattle.crc.specs.AtOnce.Linear.{it, shr, shl, low, xor, on}
-use Rattle.crc.proofs.Linear.{xor-assoc, xor-swap, run-xor, alike, by-bits}
+use Rattle.eight.specs.AtOnce.{Linear, run, folded, spread, narrowed, parity, mended, settled, number}
+use Rattle.eight.specs.AtOnce.Linear.{it, shr, shl, low, xor, on}
+use Rattle.eight.proofs.Linear.{xor-assoc, xor-swap, run-xor, alike, by-bits}
 
 -- a right shift and n of them, as shifts and exclusive-ors: 0xA001 is the bits 0, 13 and 15
 once : Linear

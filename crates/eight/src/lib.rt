@@ -1,18 +1,39 @@
-// Eight bytes at once: a word of them takes 64 right shifts, and these are made by a few shifts, masks and exclusive-ors.
+// The CRC eight bytes at once, for the host's side alone: the collector's check of a reply. The meter goes by `crc`, in the form that
+// paper 01 names. A word of eight bytes takes 64 right shifts, and these are made by a few shifts, masks and exclusive-ors of u64.
 // The polynomial is (t + 1)(t^15 + t + 1), so a CRC is known by its remainder by t^15 + t + 1, for which t^30 is t^2 + 1
 // and t^60 is t^4 + 1, and by its parity. Over a whole frame that is a third of what the shifts byte by byte cost.
 ghost use mathlib.Core.Path.{_≡_};
 ghost use Prim.Native.Nat.{_+_, _*_, _/_, _≤_};
 ghost use lib.ListN.{length, take, drop};
-ghost use Rattle.crc.specs.Crc.{crcFrom, crcOf};
-ghost use Rattle.crc.specs.AtOnce.{run, folded, spread, narrowed, parity, settled, number};
+ghost use Rattle.crc.specs.Crc.{crcFrom, crcOf, intact};
+ghost use Rattle.eight.specs.AtOnce.{run, folded, spread, narrowed, parity, settled, number};
+
+// The CRC of all bytes of a slice: the whole words, then byte by byte.
+pub fn of(bytes: &[u8]) -> u16
+    ensures { λ r. ⌜ r ≡ crcOf (now (bytes .entry)) ⌝ }
+{
+    let crc = words(bytes);
+    let end = bytes.len() / 8 * 8;
+    crc::continued(crc, &bytes[end..])
+}
+
+// Whether a frame's last two bytes are its CRC, low byte first.
+pub fn intact(frame: &[u8]) -> bool
+    ensures { λ r. ⌜ r ≡ intact (now (frame .entry)) ⌝ }
+{
+    if frame.len() < 2 {
+        return false;
+    }
+    let end = frame.len() - 2;
+    crc::ends_in(frame, of(&frame[..end]))
+}
 
 // The CRC of the whole words of a slice: its remainder is kept in x and its parity in p. 64 shifts of 0x0F14 are 0xFFFF.
-pub(crate) fn words(bytes: &[u8]) -> u16
+fn words(bytes: &[u8]) -> u16
     ensures { λ r. ⌜ crcFrom r (drop (length (now (bytes .entry)) / 8 * 8) (now (bytes .entry))) ≡ crcOf (now (bytes .entry)) ⌝ }
 {
     if bytes.len() < 8 {
-        return 0xFFFF;
+        return crc::START;
     }
     let last = bytes.len() - 8;
     let mut x: u64 = 0x0F14;

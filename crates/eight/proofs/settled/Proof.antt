@@ -3,9 +3,9 @@ use mathlib.Core.Path.{ap, _∙_}
 use Prim.Native.Nat.{ℕ, _%_, _^_}
 use lib.Bits.{bitXor}
 use borrow.Author.Needs.{needs}
-use Rattle.crc.specs.AtOnce.{run, narrowed, parity, mended, settled}
-use Rattle.crc.proofs.eight.settled.Statement.{statement}
-use Rattle.crc.proofs.eight.settled.Tie as tie
+use Rattle.eight.specs.AtOnce.{run, narrowed, parity, mended, settled}
+use Rattle.eight.proofs.settled.Statement.{statement}
+use Rattle.eight.proofs.settled.Tie as tie
 
 folded-requires : tie.Need-folded-requires
 folded-requires c κs = search needs

@@ -8,9 +8,9 @@ use lib.Bits.{bitXor, xor-lt}
 use lib.ListN.{length, getD, take, drop}
 use lib.Pow.{pow-mono, shl-lt, shl-exact}
 use lib.Seq.{drop-cons}
-use Rattle.crc.specs.AtOnce.{number}
-use Rattle.crc.proofs.eight.word.Statement.{statement}
-use Rattle.crc.proofs.eight.word.Tie as tie
+use Rattle.eight.specs.AtOnce.{number}
+use Rattle.eight.proofs.word.Statement.{statement}
+use Rattle.eight.proofs.word.Tie as tie
 
 abbrev Inv-loop : tie.InvT-loop
 Inv-loop bytes i w₀ k₀ w k = (k ≤ 8) × (w < 2 ^ (8 * (8 - k))) × (w ≡ number (take (8 - k) (drop (i + k) bytes)))
