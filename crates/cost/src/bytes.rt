@@ -1,5 +1,7 @@
-// The CRC of what stands on standard input, put behind it again and again.
+// The CRC of what stands on standard input, put behind it again and again; and the host's, eight bytes at once.
 const CRC_TURNS: u32 = 1000;
+
+const HOST_TURNS: u32 = 1000;
 
 pub fn sealed(buf: &mut [u8; 256], n: usize) -> u8 {
     let mut k: u32 = 0;
@@ -16,4 +18,24 @@ fn turn(buf: &mut [u8; 256], n: usize) {
     if n < 256 {
         buf[0] = buf[n];
     }
+}
+
+pub fn hosted(buf: &mut [u8; 256], n: usize) -> u8 {
+    let mut k: u32 = 0;
+    while k < HOST_TURNS {
+        host_turn(buf, n);
+        k += 1;
+    }
+    buf[0]
+}
+
+fn host_turn(bytes: &mut [u8], n: usize) {
+    if bytes.len() < 1 {
+        return;
+    }
+    if bytes.len() < n {
+        return;
+    }
+    let crc = eight::of(&bytes[..n]);
+    bytes[0] = (crc % 256) as u8;
 }

@@ -2,6 +2,7 @@
 mod bytes;
 mod figures;
 mod frames;
+mod once;
 mod readings;
 
 use libc::STDIN_FILENO;
@@ -16,6 +17,10 @@ fn main() {
     io::write_all(STDOUT_FILENO, b"\n");
     io::print_hex(STDOUT_FILENO, bytes::sealed(&mut buf, n) as u64, 2);
     io::write_all(STDOUT_FILENO, b"\n");
+    io::print_hex(STDOUT_FILENO, bytes::hosted(&mut buf, n) as u64, 2);
+    io::write_all(STDOUT_FILENO, b"\n");
     io::print_decimal(STDOUT_FILENO, figures::counted());
+    io::write_all(STDOUT_FILENO, b"\n");
+    io::print_hex(STDOUT_FILENO, once::each(), 2);
     io::write_all(STDOUT_FILENO, b"\n");
 }

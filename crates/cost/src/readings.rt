@@ -44,7 +44,7 @@ fn turn(request: &[u8], reply: &[u8], ratios: Ratios) -> u64 {
     sum
 }
 
-fn value(a: Answer) -> u64 {
+pub fn value(a: Answer) -> u64 {
     match a {
         Answer::Reading(q) => first_of(q),
         Answer::Error(code) => code.number() as u64,

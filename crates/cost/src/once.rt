@@ -1,0 +1,16 @@
+// One call each, outside the loops, of what these count. A function that is called from one place is compiled into its caller there; called from
+// two places it is a call, as it is for a customer's program.
+use crate::readings;
+use meter::Meter;
+use ratio::Ratios;
+
+pub fn each() -> u64 {
+    let ratios = Ratios { kta: 1, ktv: 10 };
+    let new = Meter::new(1, ratios);
+    let answered = new.meter.after(new.meter.latest);
+    let mut frame = [0u8; 256];
+    crc::put(&mut frame, 254);
+    let host = eight::of(&frame) as u64;
+    let said = readings::value(collector::read(&frame, &frame, ratios, 0));
+    said ^ host ^ answered.meter.active.positive.wh.0
+}
