@@ -4,3 +4,4 @@ pub mod Table
 pub mod Order
 pub mod Run
 pub mod Rules
+pub mod Bites
