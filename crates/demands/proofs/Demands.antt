@@ -6,6 +6,7 @@ use Rattle.words.proofs.Signs.{signed-back}
 use Rattle.lines.proofs.Texts.{text-back}
 use Rattle.counts.proofs.Joins.{join-split}
 use Rattle.directory.proofs.Rules.{directory-rules, three-tables, kinds-in-order}
+use Rattle.directory.proofs.Bites.{tests-bite}
 use Rattle.directory.proofs.Sends.{run-sends}
 use Rattle.modbus.proofs.Judged.{read-when}
 use Rattle.reading.proofs.Told.{one-answer-each}
@@ -49,6 +50,7 @@ ground = record {
   words = read-back;
   signed = signed-back;
   table = directory-rules;
+  tests = tests-bite;
   kinds = kinds-in-order;
   places = three-tables;
   runs = run-sends;

@@ -8,6 +8,7 @@ use Rattle.counts.specs.Energies.{JoinSplit}
 use Rattle.directory.specs.Rules.{DirectoryRules, ThreeTables}
 use Rattle.directory.specs.Run.{RunSends}
 use Rattle.directory.specs.Kinds.{KindsInOrder}
+use Rattle.directory.specs.Bites.{TestsBite}
 use Rattle.modbus.specs.Read.{ReadWhen}
 use Rattle.reading.specs.Cases.{OneAnswerEach}
 use Rattle.reading.specs.Impossible.{ThirteenWhen}
@@ -47,6 +48,7 @@ pub record Ground : Type 0 where
   pub words : ReadBack
   pub signed : SignedBack
   pub table : DirectoryRules
+  pub tests : TestsBite
   pub kinds : KindsInOrder
   pub places : ThreeTables
   pub runs : RunSends

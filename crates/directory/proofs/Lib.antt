@@ -6,4 +6,5 @@ pub mod Finds
 pub mod Runs
 pub mod Sends
 pub mod Rules
+pub mod Bites
 pub mod Errors

@@ -5,3 +5,4 @@ pub mod Order
 pub mod Run
 pub mod Rules
 pub mod Kinds
+pub mod Bites

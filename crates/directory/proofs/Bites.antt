@@ -1,0 +1,24 @@
+-- Each test is computed on its wrong items.
+use mathlib.Core.Path.{refl}
+use Rattle.directory.specs.Order.{ascends, every}
+use Rattle.directory.specs.Bites.{TestsBite}
+
+pub tests-bite : TestsBite
+unfolding ascends every
+tests-bite = record {
+  overlap = refl;
+  nothing-filled = refl;
+  no-word = refl;
+  three-words = refl;
+  order-alone = refl;
+  width-alone = refl;
+  byte-L-fills-2 = refl;
+  byte-W-fills-4 = refl;
+  byte-three-words = refl;
+  word-L-fills-1 = refl;
+  word-W-fills-2 = refl;
+  no-quantity = refl;
+  voltage-in-B = refl;
+  kta-in-B = refl;
+  voltage-in-W = refl;
+}

@@ -1,0 +1,44 @@
+-- Paper 01, "The directory": the tests of a directory bite. Each is computed on items that are wrong in one thing alone.
+use mathlib.Core.Path.{_≡_}
+use mathlib.Core.Bool.{false}
+use mathlib.Core.List.{[], _∷_}
+use Rattle.directory.specs.declared.Item.{Item}
+use Rattle.directory.specs.Item.{item}
+use Rattle.directory.specs.Quantity.{voltage, kta, L1, L2}
+use Rattle.directory.specs.Order.{ascends, every, narrow, ruled, shaped, meant}
+
+-- a good item: an L of the byte block
+abbrev good : Item
+good = item 0x301 4 2 (voltage L1)
+
+-- another, which starts within it
+abbrev early : Item
+early = item 0x303 4 2 (voltage L2)
+
+-- STATEMENT: each test rejects them
+pub record TestsBite : Type 0 where
+  -- of two items the later starts within the earlier
+  pub overlap : ascends 0 (good ∷ early ∷ []) ≡ false
+  -- an item fills nothing, and a good one comes after it
+  pub nothing-filled : ascends 0 (item 0x300 0 1 kta ∷ good ∷ []) ≡ false
+  -- no word is sent, by the first of two items
+  pub no-word : every narrow (item 0x300 1 0 kta ∷ good ∷ []) ≡ false
+  -- three words are sent, by the last of two items
+  pub three-words : every narrow (good ∷ item 0x305 2 3 kta ∷ []) ≡ false
+  -- rejected for its order alone
+  pub order-alone : ruled (good ∷ early ∷ []) ≡ false
+  -- rejected for its width alone
+  pub width-alone : ruled (good ∷ item 0x305 2 3 kta ∷ []) ≡ false
+  -- byte block: an L that fills 2, one word that fills 4, three words that fill 1
+  pub byte-L-fills-2 : shaped (item 0xfff 2 2 kta) ≡ false
+  pub byte-W-fills-4 : shaped (item 0xfff 4 1 kta) ≡ false
+  pub byte-three-words : shaped (item 0xfff 1 3 kta) ≡ false
+  -- word blocks: an L that fills 1, a W that fills 2
+  pub word-L-fills-1 : shaped (item 0x1000 1 2 kta) ≡ false
+  pub word-W-fills-2 : shaped (item 0x1000 2 1 kta) ≡ false
+  -- a seventh voltage, which is no quantity
+  pub no-quantity : meant (item 0x301 4 2 (voltage 6)) ≡ false
+  -- a voltage in a B, a KTA in a B, a voltage in a W of the word blocks
+  pub voltage-in-B : meant (item 0x300 1 1 (voltage L1)) ≡ false
+  pub kta-in-B : meant (item 0x300 1 1 kta) ≡ false
+  pub voltage-in-W : meant (item 0x1000 1 1 (voltage L1)) ≡ false
