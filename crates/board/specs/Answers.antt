@@ -81,28 +81,48 @@ pub record Rows (m : Meter) (frame b : List ℕ) : Type 0 where
 pub record ExactlyWhen : Type 0 where
   pub rows : (m : Meter) (frame b : List ℕ) → Rows m frame b
 
--- STATEMENT: a read that is not wrong is answered with its items' words, and a legal write is stored and echoed; address 0: stored, and silence
+-- STATEMENT: a read that is not wrong is answered with its items' words, and a legal write is stored and echoed; address 0: stored,
+-- and silence
 pub record Obeys : Type 0 where
-  pub reads : (m : Meter) (frame b : List ℕ) (first count : ℕ) → Answers m frame b → isRead frame ≡ true → readIn directory frame ≡ Items first count → boardOf m frame b ≡ sentOf (dataReply frame (itemsSent m (runItems directory first count))) m b
-  pub writes : (m : Meter) (frame b : List ℕ) → Answers m frame b → Stores m frame → boardOf m frame b ≡ sentOf (echoReply frame) (storedOf m frame) b
-  pub for-all : (m : Meter) (frame b : List ℕ) → Heeds m frame b → addressOf frame ≡ 0 → Stores m frame → boardOf m frame b ≡ silentOf (storedOf m frame) b
+  pub reads :
+      (m : Meter) (frame b : List ℕ) (first count : ℕ) → Answers m frame b → isRead frame ≡ true →
+      readIn directory frame ≡ Items first count →
+      boardOf m frame b ≡ sentOf (dataReply frame (itemsSent m (runItems directory first count))) m b
+  pub writes :
+      (m : Meter) (frame b : List ℕ) → Answers m frame b → Stores m frame →
+      boardOf m frame b ≡ sentOf (echoReply frame) (storedOf m frame) b
+  pub for-all :
+      (m : Meter) (frame b : List ℕ) → Heeds m frame b → addressOf frame ≡ 0 → Stores m frame →
+      boardOf m frame b ≡ silentOf (storedOf m frame) b
 
--- STATEMENT: a refusal changes nothing, nor does a frame that is damaged or foreign; silence leaves the buffer; bytes beyond a reply stay; only a
--- legal write that the meter heeds alters the record, and stores its group alone; address 0 never has a reply
+-- STATEMENT: a refusal changes nothing, nor does a frame that is damaged or foreign; silence leaves the buffer; bytes beyond a
+-- reply stay; only a legal write that the meter heeds alters the record, and stores its group alone; address 0 never has a reply
 pub record Untouched : Type 0 where
-  pub refused : (m : Meter) (frame b : List ℕ) (reason : Refusal) → boardOf m frame b .handled .reply ≡ Refused reason → (boardOf m frame b .handled .meter ≡ m) × (boardOf m frame b .buffer ≡ b)
-  pub unheard : (m : Meter) (frame b : List ℕ) → silence (m .address) frame ≡ true → (boardOf m frame b .handled .meter ≡ m) × (boardOf m frame b .buffer ≡ b)
+  pub refused :
+      (m : Meter) (frame b : List ℕ) (reason : Refusal) → boardOf m frame b .handled .reply ≡ Refused reason →
+      (boardOf m frame b .handled .meter ≡ m) × (boardOf m frame b .buffer ≡ b)
+  pub unheard :
+      (m : Meter) (frame b : List ℕ) → silence (m .address) frame ≡ true →
+      (boardOf m frame b .handled .meter ≡ m) × (boardOf m frame b .buffer ≡ b)
   pub silent : (m : Meter) (frame b : List ℕ) → boardOf m frame b .handled .reply ≡ Silent → boardOf m frame b .buffer ≡ b
-  pub beyond : (m : Meter) (frame b : List ℕ) (n : ℕ) → boardOf m frame b .handled .reply ≡ Sent n → drop n (boardOf m frame b .buffer) ≡ drop n b
-  pub altered : (m : Meter) (frame b : List ℕ) → (boardOf m frame b .handled .meter ≡ m) ⊎ (Heeds m frame b × Stores m frame × (boardOf m frame b .handled .meter ≡ storedOf m frame))
+  pub beyond :
+      (m : Meter) (frame b : List ℕ) (n : ℕ) → boardOf m frame b .handled .reply ≡ Sent n →
+      drop n (boardOf m frame b .buffer) ≡ drop n b
+  pub altered :
+      (m : Meter) (frame b : List ℕ) →
+      (boardOf m frame b .handled .meter ≡ m) ⊎ (Heeds m frame b × Stores m frame × (boardOf m frame b .handled .meter ≡ storedOf m frame))
   pub for-all : (m : Meter) (frame b : List ℕ) (n : ℕ) → addressOf frame ≡ 0 → boardOf m frame b .handled .reply ≡ Sent n → ⊥
 
 -- STATEMENT: every reply's CRC is right, and its length at most 256
 pub record RepliesSealed : Type 0 where
   pub long : (m : Meter) (frame b : List ℕ) (n : ℕ) → boardOf m frame b .handled .reply ≡ Sent n → n ≤ 256
-  pub whole : (m : Meter) (frame b : List ℕ) (n : ℕ) → boardOf m frame b .handled .reply ≡ Sent n → intact (take n (boardOf m frame b .buffer)) ≡ true
+  pub whole :
+      (m : Meter) (frame b : List ℕ) (n : ℕ) → boardOf m frame b .handled .reply ≡ Sent n →
+      intact (take n (boardOf m frame b .buffer)) ≡ true
 
 -- STATEMENT: what stood in the buffer is never seen: with room, answer, record and reply bytes are the same for any other
 pub record BufferUnseen : Type 0 where
   pub same : (m : Meter) (frame a b : List ℕ) → 256 ≤ length a → 256 ≤ length b → boardOf m frame a .handled ≡ boardOf m frame b .handled
-  pub bytes : (m : Meter) (frame a b : List ℕ) (n : ℕ) → 256 ≤ length a → 256 ≤ length b → boardOf m frame a .handled .reply ≡ Sent n → take n (boardOf m frame a .buffer) ≡ take n (boardOf m frame b .buffer)
+  pub bytes :
+      (m : Meter) (frame a b : List ℕ) (n : ℕ) → 256 ≤ length a → 256 ≤ length b → boardOf m frame a .handled .reply ≡ Sent n →
+      take n (boardOf m frame a .buffer) ≡ take n (boardOf m frame b .buffer)

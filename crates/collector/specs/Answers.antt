@@ -114,7 +114,8 @@ pub record Reads (request reply : List ℕ) (r : Ratios) (index : ℕ) (q : Quan
 abbrev pub Comes : List ℕ → List ℕ → Ratios → ℕ → List ℕ → Type 0
 Comes request reply r index numbers = told (collectorOf request reply r index) ≡ numbers
 
--- of one call: the rows of the table by their numbers, in the paper's reading order, first that applies; no other number; the error codes; the readings
+-- of one call: the rows of the table by their numbers, in the paper's reading order, first that applies; no other number; the error
+-- codes; the readings
 pub record Rows (request reply : List ℕ) (r : Ratios) (index : ℕ) : Type 0 where
   pub row-3 : Comes request reply r index (refusedBy 3) ↔ (ratiosOk r ≡ false)
   pub row-7 : Comes request reply r index (refusedBy 7) ↔ ((ratiosOk r ≡ true) × (Asks request → ⊥))
@@ -134,8 +135,12 @@ pub record ExactlyWhen : Type 0 where
 
 -- STATEMENT: nothing is read out of a reply whose CRC is wrong, whose address is another's, or whose words are not as many as were asked
 pub record NotMisread : Type 0 where
-  pub reading : (request reply : List ℕ) (r : Ratios) (index : ℕ) (q : Quantity) → collectorOf request reply r index ≡ Reading q → (intact reply ≡ true) × (addressOf reply ≡ addressOf request) × (length reply ≡ 5 + 2 * wordNumber request)
-  pub error : (request reply : List ℕ) (r : Ratios) (index : ℕ) (code : ErrorCode) → collectorOf request reply r index ≡ Error code → (intact reply ≡ true) × (addressOf reply ≡ addressOf request)
+  pub reading :
+      (request reply : List ℕ) (r : Ratios) (index : ℕ) (q : Quantity) → collectorOf request reply r index ≡ Reading q →
+      (intact reply ≡ true) × (addressOf reply ≡ addressOf request) × (length reply ≡ 5 + 2 * wordNumber request)
+  pub error :
+      (request reply : List ℕ) (r : Ratios) (index : ℕ) (code : ErrorCode) → collectorOf request reply r index ≡ Error code →
+      (intact reply ≡ true) × (addressOf reply ≡ addressOf request)
 
 -- STATEMENT: joining: 3 (counts only), then 14, exactly when count, Low or High is over its top, and no other number
 pub record JoinsWhen : Type 0 where

@@ -86,11 +86,19 @@ pub record HalvesRead (h : History) (e : ℕ) (lower upper : Answer) : Type 0 wh
   pub joins : joinHalvesOf lows highs ≡ joined.Energy whole
   pub bounds : Bounds (exactAt e h) 1 (whole .0)
 
--- STATEMENT: demand 3, for each of the four energies: an item of its register, wherever it stands, with its wrap, and its Low with its High, in either order; between
--- the two reads nothing is added to the exact energy
+-- STATEMENT: demand 3, for each of the four energies: an item of its register, wherever it stands, with its wrap, and its Low with
+-- its High, in either order; between the two reads nothing is added to the exact energy
 pub record Demand3 : Type 0 where
-  pub register-first : (h : History) (e : ℕ) → e < 4 → (r : Poll (h .address) (energyCount e)) (w : Poll (h .address) (wrap e)) → RegisterRead h e (collected (h .ratios) (sooner h) r) (collected (h .ratios) (later h) w)
-  pub wrap-first : (h : History) (e : ℕ) → e < 4 → (r : Poll (h .address) (energyCount e)) (w : Poll (h .address) (wrap e)) → RegisterRead h e (collected (h .ratios) (later h) r) (collected (h .ratios) (sooner h) w)
-  pub low-first : (h : History) (e : ℕ) → e < 4 → (l : Poll (h .address) (low e)) (u : Poll (h .address) (high e)) → HalvesRead h e (collected (h .ratios) (sooner h) l) (collected (h .ratios) (later h) u)
-  pub high-first : (h : History) (e : ℕ) → e < 4 → (l : Poll (h .address) (low e)) (u : Poll (h .address) (high e)) → HalvesRead h e (collected (h .ratios) (later h) l) (collected (h .ratios) (sooner h) u)
+  pub register-first :
+      (h : History) (e : ℕ) → e < 4 → (r : Poll (h .address) (energyCount e)) (w : Poll (h .address) (wrap e)) →
+      RegisterRead h e (collected (h .ratios) (sooner h) r) (collected (h .ratios) (later h) w)
+  pub wrap-first :
+      (h : History) (e : ℕ) → e < 4 → (r : Poll (h .address) (energyCount e)) (w : Poll (h .address) (wrap e)) →
+      RegisterRead h e (collected (h .ratios) (later h) r) (collected (h .ratios) (sooner h) w)
+  pub low-first :
+      (h : History) (e : ℕ) → e < 4 → (l : Poll (h .address) (low e)) (u : Poll (h .address) (high e)) →
+      HalvesRead h e (collected (h .ratios) (sooner h) l) (collected (h .ratios) (later h) u)
+  pub high-first :
+      (h : History) (e : ℕ) → e < 4 → (l : Poll (h .address) (low e)) (u : Poll (h .address) (high e)) →
+      HalvesRead h e (collected (h .ratios) (later h) l) (collected (h .ratios) (sooner h) u)
   pub still : (h : History) (e : ℕ) → exactOf e (sooner h) (h .between) ≡ 0

@@ -27,8 +27,9 @@ use Rattle.demands.specs.Determined.{Determined, Numbered}
 use Rattle.demands.specs.ShutOut.{ShutOut}
 use Rattle.demands.specs.Starred.{ExamplesHold}
 
--- STATEMENT: demand 1: no frame, sample, record or reply stops the board or the collector, and what is damaged, foreign or refused leaves the meter and the
--- reply buffer untouched, but for the error reply due. (That no call stops: none has a requires, and each is proved to return its definition's outcome.)
+-- STATEMENT: demand 1: no frame, sample, record or reply stops the board or the collector, and what is damaged, foreign or refused
+-- leaves the meter and the reply buffer untouched, but for the error reply due. (That no call stops: none has a requires, and each
+-- is proved to return its definition's outcome.)
 pub record Demand1 : Type 0 where
   pub samples : SampleAnswers
   pub frames : board.Untouched
@@ -78,7 +79,8 @@ pub record Readings : Type 0 where
   pub typed : TypesKept
   pub always : ReadsAlways
 
--- STATEMENT: demand 2, with the ground of both halves, and what is said of every call: its outcome is determined, and the paper's examples come out
+-- STATEMENT: demand 2, with the ground of both halves, and what is said of every call: its outcome is determined, and the paper's
+-- examples come out
 pub record Demand2 : Type 0 where
   pub ground : Ground
   pub replies : Replies
@@ -86,8 +88,9 @@ pub record Demand2 : Type 0 where
   pub determined : Determined
   pub examples : ExamplesHold
 
--- STATEMENT: the three; demand 3: one energy, read in any of the three places, is never above the exact energy of the samples accepted so far, and below it by
--- less than one step. None of it is empty, and it leaves no room for the wrong meters that the paper names
+-- STATEMENT: the three; demand 3: one energy, read in any of the three places, is never above the exact energy of the samples
+-- accepted so far, and below it by less than one step. None of it is empty, and it leaves no room for the wrong meters that the
+-- paper names
 pub record Demands : Type 0 where
   pub one : Demand1
   pub two : Demand2

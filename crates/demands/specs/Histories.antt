@@ -65,8 +65,8 @@ pub record TypesKept : Type 0 where
   pub event : (m : Meter) (x : Event) → Typed m → EventTyped x → Typed (afterEvent m x)
   pub events : (m : Meter) (xs : List Event) → Typed m → AllTyped xs → Typed (afterAll m xs)
 
--- STATEMENT: after any events a record is still within limits, its address and ratios are as they were, and each energy, Wh × 360,000 + remainder,
--- has grown by the exact energy of the samples accepted
+-- STATEMENT: after any events a record is still within limits, its address and ratios are as they were, and each energy, Wh ×
+-- 360,000 + remainder, has grown by the exact energy of the samples accepted
 pub record AfterEvents : Type 0 where
   pub within : (m : Meter) (xs : List Event) → meterOk m ≡ true → meterOk (afterAll m xs) ≡ true
   pub address : (m : Meter) (xs : List Event) → afterAll m xs .address ≡ m .address

@@ -1,4 +1,5 @@
--- Nothing is claimed of nothing: what `Demand3` and its like ask for can be had, for every accepted new meter, any events, every item and every own address.
+-- Nothing is claimed of nothing: what `Demand3` and its like ask for can be had, for every accepted new meter, any events, every
+-- item and every own address.
 use mathlib.Core.Path.{_≡_}
 use Prim.Native.Nat.{ℕ, _+_, _≤_, _<_}
 use mathlib.Core.Bool.{false}
@@ -29,15 +30,20 @@ frames buffer fs = map (λ (bytes : List ℕ). Event.frame bytes buffer) fs
 abbrev pub ItemPoll : ℕ → ℕ → Type 0
 ItemPoll address i = (p : Poll address (getD directory i none .quantity)) × (p .asks .first + p .index ≡ i)
 
--- STATEMENT: a history for every accepted new meter, all events and any without an accepted sample between, as any frames are; a poll for every
--- item of the directory and every own address; events as a program hands them over
+-- STATEMENT: a history for every accepted new meter, all events and any without an accepted sample between, as any frames are; a
+-- poll for every item of the directory and every own address; events as a program hands them over
 pub record NotEmpty : Type 0 where
-  pub history : (address : ℕ) (r : Ratios) (events between : List Event) → newOf address r .answer ≡ Accepted → anyTaken (afterAll (newOf address r .meter) events) between ≡ false → HistoryOf address r events between
+  pub history :
+      (address : ℕ) (r : Ratios) (events between : List Event) → newOf address r .answer ≡ Accepted →
+      anyTaken (afterAll (newOf address r .meter) events) between ≡ false → HistoryOf address r events between
   pub idle : (m : Meter) (buffer : List ℕ) (fs : List (List ℕ)) → anyTaken m (frames buffer fs) ≡ false
   pub poll : (address i : ℕ) → 1 ≤ address → i < length directory → ItemPoll address i
   pub typed : AllTyped (Event.sample noSample ∷ Event.frame (0 ∷ []) [] ∷ [])
 
--- STATEMENT: the round trip over histories: from an accepted new meter, after any events as a program hands them over, every item that can be polled, and each
--- of the directory can, is read as its quantity, and never refused
+-- STATEMENT: the round trip over histories: from an accepted new meter, after any events as a program hands them over, every item
+-- that can be polled, and each of the directory can, is read as its quantity, and never refused
 pub record ReadsAlways : Type 0 where
-  pub polls : (address : ℕ) (r : Ratios) (xs : List Event) → newOf address r .answer ≡ Accepted → AllTyped xs → (q : ℕ) (p : Poll address q) → collected r (afterAll (newOf address r .meter) xs) p ≡ Reading (meaningOf (afterAll (newOf address r .meter) xs) q)
+  pub polls :
+      (address : ℕ) (r : Ratios) (xs : List Event) → newOf address r .answer ≡ Accepted → AllTyped xs →
+      (q : ℕ) (p : Poll address q) →
+      collected r (afterAll (newOf address r .meter) xs) p ≡ Reading (meaningOf (afterAll (newOf address r .meter) xs) q)

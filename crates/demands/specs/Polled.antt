@@ -25,4 +25,6 @@ requestFor address it = sealed ((address ∷ 0x03 ∷ []) ++ word (it .start) ++
 pub record EveryItemPolled : Type 0 where
   pub hears : (address i : ℕ) → 1 ≤ address → i < length directory → heard (requestFor address (getD directory i none)) ≡ true
   pub items : (address i : ℕ) → i < length directory → readIn directory (requestFor address (getD directory i none)) ≡ Items i 1
-  pub data-sent : (m : Meter) (i : ℕ) (b : List ℕ) → meterOk m ≡ true → i < length directory → 256 ≤ length b → isRead (replyTo m (requestFor (m .address) (getD directory i none)) b) ≡ true
+  pub data-sent :
+      (m : Meter) (i : ℕ) (b : List ℕ) → meterOk m ≡ true → i < length directory → 256 ≤ length b →
+      isRead (replyTo m (requestFor (m .address) (getD directory i none)) b) ≡ true

@@ -47,7 +47,15 @@ pub record WithData : Type 0 where
 -- items; an error reply to such a request gives its code, whatever the index; a request that the meter does not answer with data
 -- is 7, whatever the reply
 pub record RoundTrip : Type 0 where
-  pub reads : (m : Meter) (request b : List ℕ) (index : ℕ) → Typed m → Meets m request b → (a : Asks request) → index < a .count → collectorOf request (replyTo m request b) (m .ratios) index ≡ Reading (meaningOf m (itemAt a index .quantity))
-  pub past : (m : Meter) (request b : List ℕ) (index : ℕ) → Meets m request b → (a : Asks request) → a .count ≤ index → Comes request (replyTo m request b) (m .ratios) index (refusedBy 12)
-  pub error : (request : List ℕ) (r : Ratios) (index code : ℕ) → Asked request r → 1 ≤ code → code ≤ 3 → Comes request (errorBytes request code) r index (errorBy code)
-  pub other : (m : Meter) (request b reply : List ℕ) (r : Ratios) (index : ℕ) → Meets m request b → ratiosOk r ≡ true → isRead (replyTo m request b) ≡ false → Comes request reply r index (refusedBy 7)
+  pub reads :
+      (m : Meter) (request b : List ℕ) (index : ℕ) → Typed m → Meets m request b → (a : Asks request) → index < a .count →
+      collectorOf request (replyTo m request b) (m .ratios) index ≡ Reading (meaningOf m (itemAt a index .quantity))
+  pub past :
+      (m : Meter) (request b : List ℕ) (index : ℕ) → Meets m request b → (a : Asks request) → a .count ≤ index →
+      Comes request (replyTo m request b) (m .ratios) index (refusedBy 12)
+  pub error :
+      (request : List ℕ) (r : Ratios) (index code : ℕ) → Asked request r → 1 ≤ code → code ≤ 3 →
+      Comes request (errorBytes request code) r index (errorBy code)
+  pub other :
+      (m : Meter) (request b reply : List ℕ) (r : Ratios) (index : ℕ) → Meets m request b → ratiosOk r ≡ true →
+      isRead (replyTo m request b) ≡ false → Comes request reply r index (refusedBy 7)

@@ -1,5 +1,5 @@
--- Paper 01, "How tight the contracts are": why the wrong meters and collectors that it names are shut out. That a meter which refuses or stays silent
--- throughout is shut out, is `EveryItemPolled.data-sent` for frames and `takes` here for samples.
+-- Paper 01, "How tight the contracts are": why the wrong meters and collectors that it names are shut out. That a meter which
+-- refuses or stays silent throughout is shut out, is `EveryItemPolled.data-sent` for frames and `takes` here for samples.
 use mathlib.Core.Path.{_≡_}
 use Prim.Native.Nat.{ℕ, _+_, _*_, _/_, _≤_, _<_}
 use mathlib.Core.Bool.{true}
@@ -61,13 +61,25 @@ tenWh =
 abbrev pub KeepsBare : (List Event → ℕ) → Type 0
 KeepsBare figure = Keeps 1 bareRatios posEa figure
 
--- STATEMENT: demand 3 holds of our own board and collector, whatever the new meter, the energy and the polls; it fails of a collector that reports the same each
--- time, of a board that ignores samples, of one that counts the first and nods at the others; a count and wrap whose join keeps the bounds are the
--- register and wrap of the exact energy, none made up; a new meter takes every sample within limits
+-- STATEMENT: demand 3 holds of our own board and collector, whatever the new meter, the energy and the polls; it fails of a
+-- collector that reports the same each time, of a board that ignores samples, of one that counts the first and nods at the others;
+-- a count and wrap whose join keeps the bounds are the register and wrap of the exact energy, none made up; a new meter takes every
+-- sample within limits
 pub record ShutOut : Type 0 where
-  pub kept : (address : ℕ) (r : Ratios) → newOf address r .answer ≡ Accepted → (e : ℕ) → e < 4 → (register : Poll address (energyCount e)) (wrapped : Poll address (wrap e)) → Keeps address r e (ours address r e register wrapped)
+  pub kept :
+      (address : ℕ) (r : Ratios) → newOf address r .answer ≡ Accepted →
+      (e : ℕ) → e < 4 → (register : Poll address (energyCount e)) (wrapped : Poll address (wrap e)) →
+      Keeps address r e (ours address r e register wrapped)
   pub same-each-time : (figure : List Event → ℕ) → ((xs : List Event) → figure xs ≡ figure []) → KeepsBare figure → ⊥
-  pub ignores-samples : (figure : List Event → ℕ) → ((s : Sample) (xs : List Event) → figure (Event.sample s ∷ xs) ≡ figure xs) → KeepsBare figure → ⊥
-  pub first-only : (figure : List Event → ℕ) → ((s t : Sample) (xs : List Event) → figure (Event.sample s ∷ Event.sample t ∷ xs) ≡ figure (Event.sample s ∷ xs)) → KeepsBare figure → ⊥
-  pub made-up : (t exact count wrap : ℕ) → count ≤ topCount → Bounds exact (stepOf t) (energyOf t (wrap * 100000000 + count) .0) → (count ≡ registerOf t (record { 0 = exact / 360000 }) .0) × (wrap ≡ wrapOf t (record { 0 = exact / 360000 }))
-  pub takes : (address : ℕ) (r : Ratios) (s : Sample) → newOf address r .answer ≡ Accepted → sampleOk (tOf r) s ≡ true → afterOf (newOf address r .meter) s .answer ≡ Accepted
+  pub ignores-samples :
+      (figure : List Event → ℕ) → ((s : Sample) (xs : List Event) → figure (Event.sample s ∷ xs) ≡ figure xs) → KeepsBare figure → ⊥
+  pub first-only :
+      (figure : List Event → ℕ) →
+      ((s t : Sample) (xs : List Event) → figure (Event.sample s ∷ Event.sample t ∷ xs) ≡ figure (Event.sample s ∷ xs)) →
+      KeepsBare figure → ⊥
+  pub made-up :
+      (t exact count wrap : ℕ) → count ≤ topCount → Bounds exact (stepOf t) (energyOf t (wrap * 100000000 + count) .0) →
+      (count ≡ registerOf t (record { 0 = exact / 360000 }) .0) × (wrap ≡ wrapOf t (record { 0 = exact / 360000 }))
+  pub takes :
+      (address : ℕ) (r : Ratios) (s : Sample) → newOf address r .answer ≡ Accepted → sampleOk (tOf r) s ≡ true →
+      afterOf (newOf address r .meter) s .answer ≡ Accepted

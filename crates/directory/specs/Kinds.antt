@@ -12,9 +12,9 @@ unfoldable pub firstOfKind : List Item → ℕ → ℕ
 firstOfKind [] kind = 0
 firstOfKind (it ∷ its) kind = cond (eqb (it .quantity / 64) kind) (it .start) (firstOfKind its kind)
 
--- STATEMENT: the kinds from 1 on are, in the paper's order: voltage (0x301), current (0x30d), power (0x319), signed power (0x1518); energy count (0x325),
--- Low (0x1500), High (0x1502), wrap (0x1540); factor (0x33d), sign (0x347), sector (0x33f), frequency (0x339); KTA (0x100), KTV (0x102), sequence (0x340),
--- plain word (0x300)
+-- STATEMENT: the kinds from 1 on are, in the paper's order: voltage (0x301), current (0x30d), power (0x319), signed power (0x1518);
+-- energy count (0x325), Low (0x1500), High (0x1502), wrap (0x1540); factor (0x33d), sign (0x347), sector (0x33f), frequency
+-- (0x339); KTA (0x100), KTV (0x102), sequence (0x340), plain word (0x300)
 pub record KindsInOrder : Type 0 where
   pub first : map (firstOfKind directory) (1 ∷ 2 ∷ 3 ∷ 4 ∷ []) ≡ 0x301 ∷ 0x30d ∷ 0x319 ∷ 0x1518 ∷ []
   pub energies : map (firstOfKind directory) (5 ∷ 6 ∷ 7 ∷ 8 ∷ []) ≡ 0x325 ∷ 0x1500 ∷ 0x1502 ∷ 0x1540 ∷ []

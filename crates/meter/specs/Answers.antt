@@ -21,8 +21,8 @@ abbrev pub answerTold : Answer → List ℕ
 answerTold Accepted = 0 ∷ []
 answerTold (Refused reason) = refusedBy (refusalNumber reason)
 
--- STATEMENT: a new meter is refused with 3 and with 4 exactly when, with no other number, and else accepted; the meter handed back is the blank
--- one of that address and those ratios, and within limits exactly when it is accepted
+-- STATEMENT: a new meter is refused with 3 and with 4 exactly when, with no other number, and else accepted; the meter handed back
+-- is the blank one of that address and those ratios, and within limits exactly when it is accepted
 pub record NewAnswers : Type 0 where
   pub row-3 : (a : ℕ) (r : Ratios) → (answerTold (newOf a r .answer) ≡ refusedBy 3) ↔ (ratiosOk r ≡ false)
   pub row-4 : (a : ℕ) (r : Ratios) → (answerTold (newOf a r .answer) ≡ refusedBy 4) ↔ ((ratiosOk r ≡ true) × (a ≡ 0))
@@ -34,13 +34,21 @@ pub record NewAnswers : Type 0 where
 -- STATEMENT: a sample is refused with 1, 5 and 6 exactly when, with no other number, and else accepted; a refusal changes nothing
 pub record SampleAnswers : Type 0 where
   pub row-1 : (m : Meter) (s : Sample) → (answerTold (afterOf m s .answer) ≡ refusedBy 1) ↔ (meterOk m ≡ false)
-  pub row-5 : (m : Meter) (s : Sample) → (answerTold (afterOf m s .answer) ≡ refusedBy 5) ↔ ((meterOk m ≡ true) × (sampleOk (meterT m) s ≡ false))
-  pub row-6 : (m : Meter) (s : Sample) → (answerTold (afterOf m s .answer) ≡ refusedBy 6) ↔ ((meterOk m ≡ true) × (sampleOk (meterT m) s ≡ true) × (meterWithinTop (nextOf m s) ≡ false))
+  pub row-5 :
+      (m : Meter) (s : Sample) →
+      (answerTold (afterOf m s .answer) ≡ refusedBy 5) ↔ ((meterOk m ≡ true) × (sampleOk (meterT m) s ≡ false))
+  pub row-6 :
+      (m : Meter) (s : Sample) → (answerTold (afterOf m s .answer) ≡ refusedBy 6) ↔
+      ((meterOk m ≡ true) × (sampleOk (meterT m) s ≡ true) × (meterWithinTop (nextOf m s) ≡ false))
   pub only : (m : Meter) (s : Sample) (n : ℕ) → answerTold (afterOf m s .answer) ≡ refusedBy n → (n ≡ 1) ⊎ (n ≡ 5) ⊎ (n ≡ 6)
-  pub accepted : (m : Meter) (s : Sample) → (afterOf m s .answer ≡ Accepted) ↔ ((meterOk m ≡ true) × (sampleOk (meterT m) s ≡ true) × (meterWithinTop (nextOf m s) ≡ true))
+  pub accepted :
+      (m : Meter) (s : Sample) → (afterOf m s .answer ≡ Accepted) ↔
+      ((meterOk m ≡ true) × (sampleOk (meterT m) s ≡ true) × (meterWithinTop (nextOf m s) ≡ true))
   pub refused : (m : Meter) (s : Sample) (reason : Refusal) → afterOf m s .answer ≡ Refused reason → afterOf m s .meter ≡ m
   pub counted : (m : Meter) (s : Sample) → afterOf m s .answer ≡ Accepted → afterOf m s .meter ≡ nextOf m s
 
 -- STATEMENT: setup words are kept and have no effect on a sample: with others in range, answer and measurements are the same
 pub record SetupIdle : Type 0 where
-  pub sample : (m : Meter) (standard output : List ℕ) (s : Sample) → meterOk m ≡ true → setupWithin (withSetup m standard output) ≡ true → afterOf (withSetup m standard output) s ≡ record { answer = afterOf m s .answer; meter = withSetup (afterOf m s .meter) standard output }
+  pub sample :
+      (m : Meter) (standard output : List ℕ) (s : Sample) → meterOk m ≡ true → setupWithin (withSetup m standard output) ≡ true →
+      afterOf (withSetup m standard output) s ≡ record { answer = afterOf m s .answer; meter = withSetup (afterOf m s .meter) standard output }

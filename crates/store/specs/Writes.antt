@@ -74,9 +74,15 @@ verdictTold (Wrong code) = errorBy (errorNumber code)
 
 -- STATEMENT: of a write, error 02 and error 03 are due exactly when, and no other; it is stored exactly when neither is
 pub record WriteWhen : Type 0 where
-  pub error-02 : (m : Meter) (frame : List ℕ) → (verdictTold (writtenOf m frame .verdict) ≡ errorBy 2) ↔ ((writeShaped frame ≡ true) × (toGroup frame ≡ false))
-  pub error-03 : (m : Meter) (frame : List ℕ) → (verdictTold (writtenOf m frame .verdict) ≡ errorBy 3) ↔ ((writeShaped frame ≡ false) ⊎ ((toGroup frame ≡ true) × (fits frame ≡ false)))
-  pub legal : (m : Meter) (frame : List ℕ) → (writtenOf m frame .verdict ≡ Good) ↔ ((writeShaped frame ≡ true) × (toGroup frame ≡ true) × (fits frame ≡ true))
+  pub error-02 :
+      (m : Meter) (frame : List ℕ) →
+      (verdictTold (writtenOf m frame .verdict) ≡ errorBy 2) ↔ ((writeShaped frame ≡ true) × (toGroup frame ≡ false))
+  pub error-03 :
+      (m : Meter) (frame : List ℕ) → (verdictTold (writtenOf m frame .verdict) ≡ errorBy 3) ↔
+      ((writeShaped frame ≡ false) ⊎ ((toGroup frame ≡ true) × (fits frame ≡ false)))
+  pub legal :
+      (m : Meter) (frame : List ℕ) →
+      (writtenOf m frame .verdict ≡ Good) ↔ ((writeShaped frame ≡ true) × (toGroup frame ≡ true) × (fits frame ≡ true))
   pub only : (m : Meter) (frame : List ℕ) (n : ℕ) → verdictTold (writtenOf m frame .verdict) ≡ errorBy n → (n ≡ 2) ⊎ (n ≡ 3)
   pub kept : (m : Meter) (frame : List ℕ) (code : ErrorCode) → writtenOf m frame .verdict ≡ Wrong code → writtenOf m frame .meter ≡ m
   pub stored : (m : Meter) (frame : List ℕ) → writtenOf m frame .verdict ≡ Good → writtenOf m frame .meter ≡ storedOf m frame
