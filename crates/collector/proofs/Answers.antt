@@ -34,7 +34,7 @@ use Rattle.reading.specs.declared.Answer.the-variants.{Reading, Error, Refused}
 use Rattle.reading.specs.Cases.{told}
 use Rattle.reading.specs.Readings.{readingOf}
 use Rattle.reading.proofs.Told.{one-answer-each}
-use Rattle.reading.proofs.Thirteen.{Entry, item-entry, thirteen-when}
+use Rattle.reading.proofs.Thirteen.{Entry, item-entry, refused-at}
 use Rattle.reading.proofs.Thirteen.Entry.{reads, refused}
 use Rattle.collector.specs.Collector.{heard, lengthWrong, isReadError, foreign, thirdOf, codeOf, errorOf, misfit, placeOf, itemOf, replyOf, collectorOf}
 use Rattle.collector.specs.Answers.{Asks, Asked, Sound, Fits, Holds, itemAt, valueIn, errorMisfit, Foreign, Misfits, Past, Impossible, Comes, Errs, Reads, Rows, ExactlyWhen, NotMisread}
@@ -134,7 +134,7 @@ module _ (request reply : List ℕ) (r : Ratios) (index : ℕ) where
       to-item (h .fits) ∙ sym (item-past _ _ _ _ (omega (arith, h .past, run-length directory (a .first) (a .count) (legal-read (a .items) .inside))))
   row ValueImpossible h =
       let a = h .holds .fits .sound .asked .asks in
-      to-reading (h .holds) ∙ thirteen-when .refused (tOf r) (a .first + index) (valueIn a reply index) (omega (arith, legal-read (a .items) .inside, h .holds .below)) .1 (h .value)
+      to-reading (h .holds) ∙ refused-at (tOf r) (a .first + index) (valueIn a reply index) (omega (arith, legal-read (a .items) .inside, h .holds .below)) .1 (h .value)
   row MeterOutOfLimits h = absurd h
   row BufferShort h = absurd h
   row OwnAddressZero h = absurd h
@@ -172,7 +172,7 @@ module _ (request reply : List ℕ) (r : Ratios) (index : ℕ) where
 
       by : {k : ℕ} → Entry k (readingOf (tOf r) (itemAt a index) (valueIn a reply index)) → Found
       by (reads q e k) = tells q (record { holds = h; reading = e })
-      by (refused e) = refuses ValueImpossible (record { holds = h; value = thirteen-when .refused (tOf r) (a .first + index) (valueIn a reply index) (omega (arith, legal-read (a .items) .inside, h .below)) .0 e })
+      by (refused e) = refuses ValueImpossible (record { holds = h; value = refused-at (tOf r) (a .first + index) (valueIn a reply index) (omega (arith, legal-read (a .items) .inside, h .below)) .0 e })
 
   -- 12
   at-index : (f : Fits request reply r) → Found

@@ -82,8 +82,8 @@ intact-is-sealed = record { passes = passes; only = only }
 
 -- with room, the buffer afterwards is the sealed bytes and then what was left
 module _ (before : List ℕ) (n : ℕ) (room : Bool) (after : List ℕ) (p : Put before n room after) where
-  parts : n + 2 ≤ length before → after ≡ sealed (take n before) ++ drop (n + 2) before
-  parts h = p .bytes ∙ simp (le-leb _ _ h, sets-eq (onLine (crcOf (take n before))) before n h)
+  pub put-parts : n + 2 ≤ length before → after ≡ sealed (take n before) ++ drop (n + 2) before
+  put-parts h = p .bytes ∙ simp (le-leb _ _ h, sets-eq (onLine (crcOf (take n before))) before n h)
 
   long : n + 2 ≤ length before → length (sealed (take n before)) ≡ n + 2
   long h = omega (arith, length-sealed (take n before), length-take-le n before (omega arith))
@@ -94,12 +94,12 @@ module _ (before : List ℕ) (n : ℕ) (room : Bool) (after : List ℕ) (p : Put
   front : room ≡ true → take (n + 2) after ≡ sealed (take n before)
   front e =
       let h = leb-true (n + 2) (length before) (sym (p .answer) ∙ e) in
-      rw (parts h, take-at _ (drop (n + 2) before) (n + 2) (long h))
+      rw (put-parts h, take-at _ (drop (n + 2) before) (n + 2) (long h))
 
   beyond-if : (b : Bool) → room ≡ b → drop (n + 2) after ≡ drop (n + 2) before
   beyond-if true e =
       let h = leb-true (n + 2) (length before) (sym (p .answer) ∙ e) in
-      rw (parts h, drop-at _ (drop (n + 2) before) (n + 2) (long h))
+      rw (put-parts h, drop-at _ (drop (n + 2) before) (n + 2) (long h))
   beyond-if false e = ap (drop (n + 2)) (refused e)
 
 pub put-seals : PutSeals

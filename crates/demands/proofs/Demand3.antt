@@ -23,7 +23,7 @@ use Rattle.meter.specs.Energies.{valueOf}
 use Rattle.meter.specs.Meters.{noEnergy, meterT, meterOk, newOf, energiesOf, energyAt}
 use Rattle.meter.proofs.Parts.{energy-rest, meter-parts}
 use Rattle.meter.proofs.Sums.{new-zero}
-use Rattle.meter.proofs.Answers.{new-answers, new-blank}
+use Rattle.meter.proofs.Answers.{made-within, new-blank}
 use Rattle.registers.proofs.Values.{energy-within, energy-most}
 use Rattle.registers.proofs.Widths.{Shows, count-shows, low-shows, high-shows, wrap-shows}
 use Rattle.demands.specs.Meaning.{countMeanings, lowMeanings, highMeanings, wrapMeanings, meanings, meaningOf}
@@ -86,7 +86,7 @@ module _ (h : History) (e : ℕ) (four : e < 4) where
   then =
       let blank = new-blank (h .address) (h .ratios) in
       record {
-        within = after-events .within first (h .events) (new-answers .within (h .address) (h .ratios) .0 (h .made));
+        within = after-events .within first (h .events) (made-within (h .address) (h .ratios) (h .made));
         address = after-events .address first (h .events) ∙ ap (λ (m : Meter). m .address) blank;
         ratios = after-events .ratios first (h .events) ∙ ap (λ (m : Meter). m .ratios) blank;
         value = omega (arith, after-events .grows e first (h .events), new-zero e (h .address) (h .ratios));

@@ -14,7 +14,7 @@ use Rattle.meter.specs.declared.Answer.the-variants.{Accepted}
 use Rattle.meter.specs.declared.Meter.{Meter}
 use Rattle.meter.specs.Samples.{noSample}
 use Rattle.meter.specs.Meters.{newOf}
-use Rattle.meter.proofs.Answers.{new-answers, new-blank}
+use Rattle.meter.proofs.Answers.{made-within, new-blank}
 use Rattle.demands.specs.Meaning.{meaningOf}
 use Rattle.demands.specs.RoundTrip.{replyTo, Meets}
 use Rattle.demands.specs.Polled.{requestFor}
@@ -65,7 +65,7 @@ polls address r xs made typed q p =
     let m = afterAll first xs in
     let same : m .ratios ≡ r = after-events .ratios first xs ∙ ap (λ (x : Meter). x .ratios) (new-blank address r) in
     let own : m .address ≡ address = after-events .address first xs ∙ ap (λ (x : Meter). x .address) (new-blank address r) in
-    let meets : Meets m (p .request) (p .buffer) = record { within = after-events .within first xs (new-answers .within address r .0 made); room = p .room; own = own ∙ sym (p .own) } in
+    let meets : Meets m (p .request) (p .buffer) = record { within = after-events .within first xs (made-within address r made); room = p .room; own = own ∙ sym (p .own) } in
     ap (λ (x : Ratios). collectorOf (p .request) (replyTo m (p .request) (p .buffer)) x (p .index)) (sym same)
     ∙ round-trip .reads m (p .request) (p .buffer) (p .index) (types-kept .events first xs (types-kept .new address r) typed) meets (p .asks) (p .below)
     ∙ ap (λ (x : ℕ). Reading (meaningOf m x)) (p .shows)

@@ -27,7 +27,7 @@ use Rattle.meter.specs.Energies.{withPower, withinTop}
 use Rattle.meter.specs.Meters.{meterT, meterOk, blankOf, newOf}
 use Rattle.meter.specs.After.{nextOf, meterWithinTop, afterOf}
 use Rattle.meter.proofs.Parts.{powers-sum, sample-parts}
-use Rattle.meter.proofs.Answers.{new-answers, new-blank, sample-answers}
+use Rattle.meter.proofs.Answers.{made-within, new-blank, sample-answers}
 use Rattle.demands.specs.Histories.{Event, afterAll, exactOf}
 use Rattle.demands.specs.Demand3.{History, Poll, Bounds, RegisterRead}
 use Rattle.demands.specs.ShutOut.{Keeps, joinedWh, ours, bareRatios, tenWh, KeepsBare, ShutOut}
@@ -118,7 +118,7 @@ takes address r s made h =
     let parts = sample-parts (tOf r) s h in
     let top : meterWithinTop (nextOf (blankOf address r) s) ≡ true = λ i. first-within address r (s .p) (parts .p) i && first-within address r (s .q) (parts .q) i in
     sample-answers .accepted (newOf address r .meter) s .1
-    (new-answers .within address r .0 made, ap (λ (m : Meter). sampleOk (meterT m) s) blank ∙ h, ap (λ (m : Meter). meterWithinTop (nextOf m s)) blank ∙ top)
+    (made-within address r made, ap (λ (m : Meter). sampleOk (meterT m) s) blank ∙ h, ap (λ (m : Meter). meterWithinTop (nextOf m s)) blank ∙ top)
 
 pub shut-out : ShutOut
 shut-out = record { kept = kept; same-each-time = same-each-time; ignores-samples = ignores-samples; first-only = first-only; made-up = made-up; takes = takes }

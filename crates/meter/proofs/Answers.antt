@@ -172,13 +172,16 @@ new-accepted a r = (
   λ h. new-made a r .1 (h .0, ap not (ne-eqb a 0 (h .1)), refl),
 )
 
-new-within : (a : ℕ) (r : Ratios) → (newOf a r .answer ≡ Accepted) ↔ (meterOk (newOf a r .meter) ≡ true)
+new-within : (a : ℕ) (r : Ratios) → (newOf a r .answer ≡ Accepted) ↔ (meterOk (blankOf a r) ≡ true)
 new-within a r =
-    let within = ap meterOk (new-blank a r) ∙ blank-within a r in
-    rw within (
+    rw (blank-within a r) (
       λ h. let t = new-made a r .0 h in (λ i. (sym (zero-no a) ∙ t .1) i && t .0 i),
       λ h. let t = and-eq-true-iff (leb 1 a) (ratiosOk r) .0 h in new-made a r .1 (t .1, zero-no a ∙ t .0, refl),
     )
+
+-- an accepted meter is within limits
+pub made-within : (a : ℕ) (r : Ratios) → newOf a r .answer ≡ Accepted → meterOk (newOf a r .meter) ≡ true
+made-within a r made = ap meterOk (new-blank a r) ∙ new-within a r .0 made
 
 pub new-answers : NewAnswers
 new-answers = record {

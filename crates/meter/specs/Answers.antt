@@ -29,7 +29,7 @@ pub record NewAnswers : Type 0 where
   pub only : (a : ℕ) (r : Ratios) (n : ℕ) → answerTold (newOf a r .answer) ≡ refusedBy n → (n ≡ 3) ⊎ (n ≡ 4)
   pub accepted : (a : ℕ) (r : Ratios) → (newOf a r .answer ≡ Accepted) ↔ ((ratiosOk r ≡ true) × (a ≡ 0 → ⊥))
   pub blank : (a : ℕ) (r : Ratios) → newOf a r .meter ≡ blankOf a r
-  pub within : (a : ℕ) (r : Ratios) → (newOf a r .answer ≡ Accepted) ↔ (meterOk (newOf a r .meter) ≡ true)
+  pub within : (a : ℕ) (r : Ratios) → (newOf a r .answer ≡ Accepted) ↔ (meterOk (blankOf a r) ≡ true)
 
 -- STATEMENT: a sample is refused with 1, 5 and 6 exactly when, with no other number, and else accepted; a refusal changes nothing
 pub record SampleAnswers : Type 0 where

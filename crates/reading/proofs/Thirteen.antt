@@ -1,13 +1,15 @@
 -- Refusal 13, kind by kind: what stands beside a reading in the list is what the row says of its kind.
 use mathlib.Core.Path.{_≡_, refl, sym, ap, _∙_}
-use mathlib.Core.Logic.{_↔_}
+use mathlib.Core.Logic.{_↔_, Iff·trans}
 use mathlib.Core.Bool.{Bool, true, false, _&&_, _||_, not, cond, false≢true, or-false}
 use mathlib.Core.List.{List, [], _∷_}
-use Prim.Native.Nat.{ℕ, zero, suc, _+_, _*_, _/_, _%_}
+use Prim.Native.Nat.{ℕ, zero, suc, _+_, _*_, _/_, _%_, _<_}
 use native.Mathlib.Omega.{arith}
 use lib.Dec.{leb, ltb, eqb}
-use lib.ListN.{getD}
+use lib.ListN.{length, getD}
 use borrow.Author.Tests.{leb-true, leb-false, lt-ltb, le-ltb}
+use Rattle.refusal.specs.Numbers.{refusedBy}
+use Rattle.refusal.proofs.Distinct.{caseIn, numberIn}
 use Rattle.words.specs.Signed.{magnitudeIn}
 use Rattle.ratio.specs.Ratios.{ktaOk, ktvOk}
 use Rattle.counts.specs.Energies.{topCount, topLow, topHigh}
@@ -23,6 +25,7 @@ use Rattle.reading.specs.declared.Answer.the-variants.{Reading}
 use Rattle.reading.specs.Cases.{kindOf, told}
 use Rattle.reading.specs.Readings.{impossible, when, times, signedIn, unitOf, counted, longs, shorts, longOf, wordOf, isB, readingOf}
 use Rattle.reading.specs.Impossible.{oneOf, thirteen, ThirteenWhen}
+use Rattle.reading.proofs.Told.{one-answer-each}
 use Rattle.reading.proofs.ByKind.{Each, each-at}
 use Rattle.reading.proofs.Wide.{Wide, wide-at, long-kinds, word-kinds}
 
@@ -215,8 +218,17 @@ entry-kind : {k : ℕ} {a : Answer} → Entry k a → (q : Quantity) → a ≡ R
 entry-kind (reads x e h) q f = ap (λ (b : Answer). getD (told b) 1 0) (sym f ∙ e) ∙ h
 entry-kind (refused e) q f = absurd (never q (sym f ∙ e))
 
+entry-number : {k : ℕ} {a : Answer} → Entry k a → (n : ℕ) → told a ≡ refusedBy n → n ≡ 13
+entry-number (reads x e h) n f = absurd (omega (arith, ap caseIn (sym (ap told e) ∙ f)))
+entry-number (refused e) n f = sym (ap numberIn (sym (ap told e) ∙ f))
+
+-- 13 by its name
+pub refused-at : (t i v : ℕ) → i < length directory → (readingOf t (getD directory i none) v ≡ impossible) ↔ (thirteen (getD directory i none) v ≡ true)
+refused-at t i v h = refused-when t (getD directory i none) v (wide-at i h)
+
 pub thirteen-when : ThirteenWhen
 thirteen-when = record {
-  refused = λ t i v h. refused-when t (getD directory i none) v (wide-at i h);
+  row-13 = λ t i v h. Iff·trans (one-answer-each .answers (readingOf t (getD directory i none) v) impossible, λ e. ap told e) (refused-at t i v h);
+  only = λ t i v. entry-number (item-entry t (getD directory i none) v);
   reads = λ t i v. entry-kind (item-entry t (getD directory i none) v);
 }

@@ -6,6 +6,7 @@ use mathlib.Core.Bool.{Bool, true, false, _&&_, _||_, not, cond}
 use mathlib.Core.List.{List, [], _∷_}
 use lib.Dec.{leb, ltb, eqb}
 use lib.ListN.{length, getD}
+use Rattle.refusal.specs.Numbers.{refusedBy}
 use Rattle.words.specs.Signed.{magnitudeIn}
 use Rattle.ratio.specs.Ratios.{ktaOk, ktvOk}
 use Rattle.counts.specs.Energies.{topCount, topLow, topHigh}
@@ -15,8 +16,8 @@ use Rattle.directory.specs.Table.{directory}
 use Rattle.directory.specs.Run.{isL}
 use Rattle.reading.specs.declared.Quantity.{Quantity}
 use Rattle.reading.specs.declared.Answer.the-variants.{Reading}
-use Rattle.reading.specs.Cases.{kindOf}
-use Rattle.reading.specs.Readings.{impossible, isB, readingOf}
+use Rattle.reading.specs.Cases.{kindOf, told}
+use Rattle.reading.specs.Readings.{isB, readingOf}
 
 -- the kind of an item's quantity
 abbrev pub isKind : ℕ → Item → Bool
@@ -46,7 +47,13 @@ thirteen it v = oneOf (
     (isKind 14 it && not (ktvOk v)) ∷
     [])
 
--- STATEMENT: an item of the directory is refused with 13 exactly when its value is in the row; else its reading is of its quantity's kind
+-- STATEMENT: an item of the directory is refused with 13 exactly when its value is in the row, and with no other number; else its
+-- reading is of its quantity's kind
 pub record ThirteenWhen : Type 0 where
-  pub refused : (t i v : ℕ) → i < length directory → (readingOf t (getD directory i none) v ≡ impossible) ↔ (thirteen (getD directory i none) v ≡ true)
-  pub reads : (t i v : ℕ) (q : Quantity) → readingOf t (getD directory i none) v ≡ Reading q → kindOf q ≡ getD directory i none .quantity / 64
+  pub row-13 :
+      (t i v : ℕ) → i < length directory →
+      (told (readingOf t (getD directory i none) v) ≡ refusedBy 13) ↔ (thirteen (getD directory i none) v ≡ true)
+  pub only : (t i v n : ℕ) → told (readingOf t (getD directory i none) v) ≡ refusedBy n → n ≡ 13
+  pub reads :
+      (t i v : ℕ) (q : Quantity) → readingOf t (getD directory i none) v ≡ Reading q →
+      kindOf q ≡ getD directory i none .quantity / 64

@@ -39,7 +39,7 @@ put-requires c κs = search needs
 
 returns : tie.Need-returns
 returns c = let a = c .before .before .before .before .before .before .before .before .before .args in
-    (refl, seals (a .buffer .now) (addressOf (a .frame .now) ∷ (functionOf (a .frame .now) + 0x80) ∷ errorNumber (a .code) ∷ []) 3 _ _ _ refl (omega arith) (rw (c .before .before .before .before .number .ensures) refl) (c .before .before .put .ensures))
+    (refl, seals (a .buffer .now) (addressOf (a .frame .now) ∷ (functionOf (a .frame .now) + 0x80) ∷ errorNumber (a .code) ∷ []) 3 _ _ _ refl (omega arith) (c .before .before .put .ensures) (rw (c .before .before .before .before .number .ensures) refl))
 
 same-length : tie.Need-same-length
 same-length c =

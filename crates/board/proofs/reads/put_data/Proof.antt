@@ -86,7 +86,7 @@ returns : tie.Need-returns
 returns c =
     let p = c .before .before .before .before .before .before in
     let s = start p in
-    (omega (arith, long p, length-sealed (bytes s)), seals (s .args .buffer .now) (bytes s) (p .put-items .result) _ _ _ (long p) (room p) (stored p) (c .before .before .put .ensures))
+    (omega (arith, long p, length-sealed (bytes s)), seals (s .args .buffer .now) (bytes s) (p .put-items .result) _ _ _ (long p) (room p) (c .before .before .put .ensures) (stored p))
 
 same-length : tie.Need-same-length
 same-length c =
