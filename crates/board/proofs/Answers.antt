@@ -52,6 +52,10 @@ said o = o .handled .reply
 abbrev heard-as : {x y : Outcome} {r : Reply} → x ≡ y → said x ≡ r → said y ≡ r
 heard-as e h = sym (ap said e) ∙ h
 
+-- and its numbers
+abbrev told-as : {x y : Outcome} {numbers : List ℕ} → x ≡ y → replyTold (said x) ≡ numbers → replyTold (said y) ≡ numbers
+told-as e h = sym (ap (λ (o : Outcome). replyTold (said o)) e) ∙ h
+
 -- two cases of other numbers
 apart {ℓ} : {A : Type ℓ} {x y : Reply} → (caseIn (replyTold x) ≡ caseIn (replyTold y) → ⊥) → x ≡ y → A
 apart n e = absurd (n (ap (λ (r : Reply). caseIn (replyTold r)) e))
@@ -65,11 +69,11 @@ module _ (m : Meter) (frame b : List ℕ) where
     by-buffer : n ≡ 2 → meterOk m ≡ true → length b < 256 → Refuses n
 
   refuses : View m frame b → (n : ℕ) → Comes m frame b (refusedBy n) → Refuses n
-  refuses (out h e) n r = by-record (sym (ap numberIn (sym (ap (λ (o : Outcome). replyTold (said o)) e) ∙ r))) h
-  refuses (short h k e) n r = by-buffer (sym (ap numberIn (sym (ap (λ (o : Outcome). replyTold (said o)) e) ∙ r))) h k
-  refuses (unheard h k q e) n r = absurd (let z = ap caseIn (sym (ap (λ (o : Outcome). replyTold (said o)) e) ∙ r) in omega (arith, z))
-  refuses (for-all bytes k h z g e) n r = absurd (let z = ap caseIn (sym (ap (λ (o : Outcome). replyTold (said o)) e) ∙ r) in omega (arith, z))
-  refuses (for-one bytes k a g e) n r = absurd (let z = ap caseIn (sym (ap (λ (o : Outcome). replyTold (said o)) e) ∙ r) in omega (arith, z))
+  refuses (out h e) n r = by-record (sym (ap numberIn (told-as e r))) h
+  refuses (short h k e) n r = by-buffer (sym (ap numberIn (told-as e r))) h k
+  refuses (unheard h k q e) n r = absurd (omega (arith, ap caseIn (told-as e r)))
+  refuses (for-all bytes k h z g e) n r = absurd (omega (arith, ap caseIn (told-as e r)))
+  refuses (for-one bytes k a g e) n r = absurd (omega (arith, ap caseIn (told-as e r)))
 
   row-1 : Refuses 1 → meterOk m ≡ false
   row-1 (by-record e h) = h

@@ -82,7 +82,9 @@ roundedOf t e = energyOf t (countOf t e)
 
 -- STATEMENT: joining register and wrap gives the energy rounded down to the step, and Low and High the energy itself
 pub record JoinSplit : Type 0 where
-  pub counts : (r : Ratios) (e : WattHours) → ratiosOk r ≡ true → joinOf r (registerOf (tOf r) e) (wrapOf (tOf r) e) ≡ Energy (roundedOf (tOf r) e)
+  pub counts :
+      (r : Ratios) (e : WattHours) → ratiosOk r ≡ true →
+      joinOf r (registerOf (tOf r) e) (wrapOf (tOf r) e) ≡ Energy (roundedOf (tOf r) e)
   pub halves : (e : WattHours) → e .0 ≤ topWh → joinHalvesOf (lowOf e) (highOf e) ≡ Energy e
   pub above : (t : ℕ) (e : WattHours) → roundedOf t e .0 ≤ e .0
   pub below : (t : ℕ) (e : WattHours) → e .0 < roundedOf t e .0 + stepOf t

@@ -66,6 +66,8 @@ pub record Put (before : List ℕ) (n : ℕ) (room : Bool) (after : List ℕ) : 
 
 -- STATEMENT: with room, the first n bytes are then sealed, and nothing else changed
 pub record PutSeals : Type 0 where
-  pub front : (before : List ℕ) (n : ℕ) (room : Bool) (after : List ℕ) → Put before n room after → room ≡ true → take (n + 2) after ≡ sealed (take n before)
+  pub front :
+      (before : List ℕ) (n : ℕ) (room : Bool) (after : List ℕ) → Put before n room after → room ≡ true →
+      take (n + 2) after ≡ sealed (take n before)
   pub beyond : (before : List ℕ) (n : ℕ) (room : Bool) (after : List ℕ) → Put before n room after → drop (n + 2) after ≡ drop (n + 2) before
   pub refused : (before : List ℕ) (n : ℕ) (room : Bool) (after : List ℕ) → Put before n room after → room ≡ false → after ≡ before

@@ -39,7 +39,10 @@ signedMeanings m = map (λ (p : Signed). read.SignedPower (cut 100 p)) (powersOf
 -- energy count with step and Wh
 unfoldable pub countMeanings : Meter → List Quantity
 countMeanings m =
-    map (λ (e : Energy). read.Energy (registerOf (meterT m) (e .wh)) (stepOf (meterT m)) (energyOf (meterT m) (registerOf (meterT m) (e .wh) .0))) (energiesOf m)
+    map
+    (λ (e : Energy).
+    read.Energy (registerOf (meterT m) (e .wh)) (stepOf (meterT m)) (energyOf (meterT m) (registerOf (meterT m) (e .wh) .0)))
+    (energiesOf m)
 
 -- Low
 unfoldable pub lowMeanings : Meter → List Quantity

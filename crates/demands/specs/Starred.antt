@@ -73,7 +73,9 @@ starred =
     -- step 1,000: 1,999 Wh gives register 1, Low 1,999
     example (stepOf 1000 ∷ registerOf 1000 (wattHours 1999) .0 ∷ lowOf (wattHours 1999) ∷ []) (1000 ∷ 1 ∷ 1999 ∷ []) ∷
     -- 100,000,000,000 Wh gives register 0, wrap 1, High 100,000
-    example (registerOf 1000 (wattHours 100000000000) .0 ∷ wrapOf 1000 (wattHours 100000000000) ∷ highOf (wattHours 100000000000) ∷ []) (0 ∷ 1 ∷ 100000 ∷ []) ∷
+    example
+    (registerOf 1000 (wattHours 100000000000) .0 ∷ wrapOf 1000 (wattHours 100000000000) ∷ highOf (wattHours 100000000000) ∷ [])
+    (0 ∷ 1 ∷ 100000 ∷ []) ∷
     -- P of -150 hundredths: sign 1, signed word -1; of -50: sign 1, signed word 0
     example (signs (signedOf (negsuc 149))) (1 ∷ 0xFFFFFFFF ∷ []) ∷
     example (signs (signedOf (negsuc 49))) (1 ∷ 0 ∷ []) ∷

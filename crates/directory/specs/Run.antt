@@ -58,5 +58,9 @@ wordsOf (it ∷ its) = it .words + wordsOf its
 
 -- STATEMENT: over any directory, the items of a run stand in it, and send just the words asked
 pub record RunSends : Type 0 where
-  pub inside : (dir : List Item) (start words first count : ℕ) → T (ruled dir) → runIn dir start words ≡ Items first count → first + count ≤ length dir
-  pub sends : (dir : List Item) (start words first count : ℕ) → T (ruled dir) → runIn dir start words ≡ Items first count → wordsOf (runItems dir first count) ≡ words
+  pub inside :
+      (dir : List Item) (start words first count : ℕ) → T (ruled dir) → runIn dir start words ≡ Items first count →
+      first + count ≤ length dir
+  pub sends :
+      (dir : List Item) (start words first count : ℕ) → T (ruled dir) → runIn dir start words ≡ Items first count →
+      wordsOf (runItems dir first count) ≡ words

@@ -51,4 +51,5 @@ pub record SampleAnswers : Type 0 where
 pub record SetupIdle : Type 0 where
   pub sample :
       (m : Meter) (standard output : List ℕ) (s : Sample) → meterOk m ≡ true → setupWithin (withSetup m standard output) ≡ true →
-      afterOf (withSetup m standard output) s ≡ record { answer = afterOf m s .answer; meter = withSetup (afterOf m s .meter) standard output }
+      afterOf (withSetup m standard output) s ≡
+      record { answer = afterOf m s .answer; meter = withSetup (afterOf m s .meter) standard output }

@@ -28,7 +28,13 @@ readIn dir frame =
 
 -- STATEMENT: of a read, error 02 and error 03 are due exactly when, and it is answered with data exactly when neither is; error 01 never is
 pub record ReadWhen : Type 0 where
-  pub error-02 : (dir : List Item) (frame : List ℕ) → (readIn dir frame ≡ Error Address) ↔ ((length frame ≡ 8) × (numberWrong (wordNumber frame) ≡ false) × (runIn dir (startOf frame) (wordNumber frame) ≡ Error Address))
-  pub error-03 : (dir : List Item) (frame : List ℕ) → (readIn dir frame ≡ Error Data) ↔ ((length frame ≡ 8 → ⊥) ⊎ (numberWrong (wordNumber frame) ≡ true) ⊎ (runIn dir (startOf frame) (wordNumber frame) ≡ Error Data))
-  pub items : (dir : List Item) (frame : List ℕ) (first count : ℕ) → (readIn dir frame ≡ Items first count) ↔ ((length frame ≡ 8) × (numberWrong (wordNumber frame) ≡ false) × (runIn dir (startOf frame) (wordNumber frame) ≡ Items first count))
+  pub error-02 :
+      (dir : List Item) (frame : List ℕ) → (readIn dir frame ≡ Error Address) ↔
+      ((length frame ≡ 8) × (numberWrong (wordNumber frame) ≡ false) × (runIn dir (startOf frame) (wordNumber frame) ≡ Error Address))
+  pub error-03 :
+      (dir : List Item) (frame : List ℕ) → (readIn dir frame ≡ Error Data) ↔
+      ((length frame ≡ 8 → ⊥) ⊎ (numberWrong (wordNumber frame) ≡ true) ⊎ (runIn dir (startOf frame) (wordNumber frame) ≡ Error Data))
+  pub items :
+      (dir : List Item) (frame : List ℕ) (first count : ℕ) → (readIn dir frame ≡ Items first count) ↔
+      ((length frame ≡ 8) × (numberWrong (wordNumber frame) ≡ false) × (runIn dir (startOf frame) (wordNumber frame) ≡ Items first count))
   pub never : (dir : List Item) (frame : List ℕ) → readIn dir frame ≡ Error Function → ⊥

@@ -1,4 +1,5 @@
--- Paper 01, "The directory" (L, W, B; no setup word alters a measurement): every quantity has its case, and what is shown has room where it is sent.
+-- Paper 01, "The directory" (L, W, B; no setup word alters a measurement): every quantity has its case, and what is shown has room
+-- where it is sent.
 use mathlib.Core.Path.{_≡_}
 use Prim.Native.Nat.{ℕ, _/_, _%_, _^_, _≤_, _<_}
 use mathlib.Core.Bool.{true}
@@ -37,7 +38,9 @@ pub record EveryCase : Type 0 where
   pub case : (m : Meter) → Typed m → meterOk m ≡ true → (q : ℕ) → 1 ≤ widthOf q → q % 64 < length (getD (valuesOf m) (q / 64) [])
   pub fits : (m : Meter) → Typed m → meterOk m ≡ true → (q : ℕ) → shownOf m q < 256 ^ widthOf q
   pub known : (i : ℕ) → i < length directory → 1 ≤ widthOf (getD directory i none .quantity)
-  pub room : (m : Meter) → Typed m → meterOk m ≡ true → (i : ℕ) → i < length directory → shownOf m (getD directory i none .quantity) < 256 ^ roomOf (getD directory i none)
+  pub room :
+      (m : Meter) → Typed m → meterOk m ≡ true → (i : ℕ) → i < length directory →
+      shownOf m (getD directory i none .quantity) < 256 ^ roomOf (getD directory i none)
 
 -- STATEMENT: setup words alter no measurement: what is shown of every other kind is the same with others
 pub record SetupUnseen : Type 0 where
