@@ -70,7 +70,7 @@ error-code reply Data five says = simp (eq-eqb (length reply) 5 five, says)
 -- ---- each row and rule leads to its answer
 
 -- the rows of the table by their reasons; the others are never given to a reading
-abbrev pub Row : Refusal → List ℕ → List ℕ → Ratios → ℕ → Type 0
+abbrev Row : Refusal → List ℕ → List ℕ → Ratios → ℕ → Type 0
 Row RatioOutOfLimits request reply r index = ratiosOk r ≡ false
 Row NotARead request reply r index = (ratiosOk r ≡ true) × (Asks request → ⊥)
 Row ReplyLength request reply r index = Asked request r × (lengthWrong reply ≡ true)
@@ -120,7 +120,7 @@ module _ (request reply : List ℕ) (r : Ratios) (index : ℕ) where
       by true (span.Error code) e f = rw (ok, e, f) refl
       by true (span.Items first count) e f = absurd (other (record { hears = e; first = first; count = count; items = f }))
 
-  pub row : (reason : Refusal) → Row reason request reply r index → answer ≡ Refused reason
+  row : (reason : Refusal) → Row reason request reply r index → answer ≡ Refused reason
   row RatioOutOfLimits h = ratio-row h
   row NotARead h = request-row (h .0) (h .1)
   row ReplyLength h = to-reply (h .0) ∙ sym (length-refused _ _ _ _ _ (h .1))
@@ -142,7 +142,7 @@ module _ (request reply : List ℕ) (r : Ratios) (index : ℕ) where
   row EnergyPastTop h = absurd h
   row JoinPastTop h = absurd h
 
-  pub errs : (code : ErrorCode) → Errs request reply r (errorNumber code) → answer ≡ Error code
+  errs : (code : ErrorCode) → Errs request reply r (errorNumber code) → answer ≡ Error code
   errs code h =
       let s = h .sound in
       to-reply (s .asked) ∙ sym (error-given _ _ _ _ _ (s .long) (s .whole) (s .own) (h .error)) ∙ error-code reply code (h .long) (h .says)

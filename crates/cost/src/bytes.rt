@@ -1,12 +1,24 @@
-// The CRC of what stands on standard input, put behind it again and again; and the host's, eight bytes at once.
+// The CRC of what stands on standard input, again and again: the meter's, put behind the bytes, or the host's, eight bytes at once.
 const CRC_TURNS: u32 = 1000;
 
 const HOST_TURNS: u32 = 1000;
 
 pub fn sealed(buf: &mut [u8; 256], n: usize) -> u8 {
+    turns(buf, n, CRC_TURNS, false)
+}
+
+pub fn hosted(buf: &mut [u8; 256], n: usize) -> u8 {
+    turns(buf, n, HOST_TURNS, true)
+}
+
+fn turns(buf: &mut [u8; 256], n: usize, times: u32, host: bool) -> u8 {
     let mut k: u32 = 0;
-    while k < CRC_TURNS {
-        turn(buf, n);
+    while k < times {
+        if host {
+            host_turn(buf, n);
+        } else {
+            turn(buf, n);
+        }
         k += 1;
     }
     buf[0]
@@ -18,15 +30,6 @@ fn turn(buf: &mut [u8; 256], n: usize) {
     if n < 256 {
         buf[0] = buf[n];
     }
-}
-
-pub fn hosted(buf: &mut [u8; 256], n: usize) -> u8 {
-    let mut k: u32 = 0;
-    while k < HOST_TURNS {
-        host_turn(buf, n);
-        k += 1;
-    }
-    buf[0]
 }
 
 fn host_turn(bytes: &mut [u8], n: usize) {

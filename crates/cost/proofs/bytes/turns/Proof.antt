@@ -1,20 +1,23 @@
--- A thousand turns, one fewer left at each.
+-- So many turns, one fewer left at each, whichever CRC a turn takes.
 use Prim.Native.Nat.{_≤_, _-_}
 use borrow.Author.Needs.{needs}
-use Rattle.cost.proofs.bytes.hosted.Statement.{statement}
-use Rattle.cost.proofs.bytes.hosted.Tie as tie
+use Rattle.cost.proofs.bytes.turns.Statement.{statement}
+use Rattle.cost.proofs.bytes.turns.Tie as tie
 
 abbrev Inv-loop : tie.InvT-loop
-Inv-loop buf₀ n k₀ buf k = k ≤ 1000
+Inv-loop buf₀ n times host k₀ buf k = k ≤ times
 
 abbrev μ-loop : tie.MeasureT-loop
-μ-loop buf₀ n k₀ buf k = 1000 - k
+μ-loop buf₀ n times host k₀ buf k = times - k
 
 loop-holds : tie.Need-loop-holds Inv-loop μ-loop
 loop-holds c = search needs
 
 host-turn-requires : tie.Need-host-turn-requires Inv-loop μ-loop
 host-turn-requires c κs = search needs
+
+turn-requires : tie.Need-turn-requires Inv-loop μ-loop
+turn-requires c κs = search needs
 
 add-k : tie.Need-add-k Inv-loop μ-loop
 add-k c = search needs
@@ -31,14 +34,15 @@ element-copy-out-result c = search needs
 returns : tie.Need-returns Inv-loop μ-loop
 returns c = search needs
 
-pub hosted-spec : {M : Type 1} → statement M
-hosted-spec =
+pub turns-spec : {M : Type 1} → statement M
+turns-spec =
     tie.close
     (tie.spec
     Inv-loop
     μ-loop
     loop-holds
     host-turn-requires
+    turn-requires
     add-k
     loop-less
     loop-again
