@@ -21,4 +21,5 @@ tests-bite = record {
   voltage-in-B = refl;
   kta-in-B = refl;
   voltage-in-W = refl;
+  kta-in-L = refl;
 }

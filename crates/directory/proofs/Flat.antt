@@ -1,10 +1,10 @@
--- A flat table as items: dropping four numbers drops an item, so the item of index i stands at 4 × i.
+-- A flat table as items: dropping four numbers drops an item, so the item of index i stands at 4 × i, and a part of the table holds a run.
 use mathlib.Core.Path.{_≡_, refl, sym, ap, _∙_}
 use mathlib.Core.List.{List, [], _∷_}
 use Prim.Native.Nat.{ℕ, zero, suc, _+_, _*_, _/_, _≤_, _<_}
 use native.Mathlib.Nat.{add-zero}
 use native.Mathlib.Omega.{arith}
-use lib.ListN.{length, getD, drop}
+use lib.ListN.{length, getD, take, drop, length-drop}
 use lib.Seq.{drop-cons, getD-drop}
 use Rattle.directory.specs.declared.Item.{Item}
 use Rattle.directory.specs.Item.{item, items, none}
@@ -27,6 +27,22 @@ items-skip (a ∷ f ∷ w ∷ []) (suc i) h = let z : ⊥ = omega arith in absur
 items-skip (a ∷ f ∷ []) (suc i) h = let z : ⊥ = omega arith in absurd z
 items-skip (a ∷ []) (suc i) h = let z : ⊥ = omega arith in absurd z
 items-skip [] (suc i) h = let z : ⊥ = omega arith in absurd z
+
+items-front : (l : List ℕ) (i : ℕ) → 4 * i ≤ length l → items (take (4 * i) l) ≡ take i (items l)
+unfolding items
+items-front l zero h = refl
+items-front (a ∷ f ∷ w ∷ q ∷ l) (suc i) h =
+    let e : 4 * suc i ≡ suc (suc (suc (suc (4 * i)))) = omega arith in
+    rw e (ap (λ (its : List Item). item a f w q ∷ its) (items-front l i (omega arith)))
+items-front (a ∷ f ∷ w ∷ []) (suc i) h = let z : ⊥ = omega arith in absurd z
+items-front (a ∷ f ∷ []) (suc i) h = let z : ⊥ = omega arith in absurd z
+items-front (a ∷ []) (suc i) h = let z : ⊥ = omega arith in absurd z
+items-front [] (suc i) h = let z : ⊥ = omega arith in absurd z
+
+-- four numbers an item, from 4 × first on
+pub items-part : (l : List ℕ) (first count : ℕ) → 4 * (first + count) ≤ length l → items (take (4 * count) (drop (4 * first) l)) ≡ take count (drop first (items l))
+items-part l first count h =
+    items-front (drop (4 * first) l) count (omega (arith, h, length-drop (4 * first) l)) ∙ ap (take count) (sym (items-skip l first (omega (arith, h))))
 
 -- the item of index i, number by number
 pub item-of : (l : List ℕ) (i : ℕ) → 4 * i + 4 ≤ length l → getD (items l) i none ≡ item (getD l (4 * i) 0) (getD l (4 * i + 1) 0) (getD l (4 * i + 2) 0) (getD l (4 * i + 3) 0)

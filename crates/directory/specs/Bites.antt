@@ -38,7 +38,8 @@ pub record TestsBite : Type 0 where
   pub word-W-fills-2 : shaped (item 0x1000 2 1 kta) ≡ false
   -- a seventh voltage, which is no quantity
   pub no-quantity : meant (item 0x301 4 2 (voltage 6)) ≡ false
-  -- a voltage in a B, a KTA in a B, a voltage in a W of the word blocks
+  -- a voltage in a B, a KTA in a B, a voltage in a W of the word blocks, a KTA in an L
   pub voltage-in-B : meant (item 0x300 1 1 (voltage L1)) ≡ false
   pub kta-in-B : meant (item 0x300 1 1 kta) ≡ false
   pub voltage-in-W : meant (item 0x1000 1 1 (voltage L1)) ≡ false
+  pub kta-in-L : meant (item 0x301 4 2 kta) ≡ false

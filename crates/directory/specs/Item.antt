@@ -1,9 +1,9 @@
 -- Paper 01, "The directory": an item is four numbers of the constant table (address, addresses filled, words sent,
 -- quantity), and the table is read four numbers at a time.
 use Prim.Native.Nat.{ℕ, _+_}
-use mathlib.Core.Bool.{Bool}
+use mathlib.Core.Bool.{Bool, _&&_}
 use mathlib.Core.List.{List, [], _∷_}
-use lib.Dec.{ltb}
+use lib.Dec.{ltb, eqb}
 use Rattle.directory.specs.declared.Item.{Item}
 
 -- address, addresses filled, words sent, quantity
@@ -25,6 +25,10 @@ none = item 0 0 0 0
 -- the byte block: addresses count bytes
 abbrev pub inBytes : Item → Bool
 inBytes it = ltb (it .start) 0x1000
+
+-- B stands in the byte block alone, where it fills 1
+abbrev pub isB : Item → Bool
+isB it = inBytes it && eqb (it .fills) 1
 
 -- where an item ends: the address after the last that it fills
 abbrev pub ends : Item → ℕ

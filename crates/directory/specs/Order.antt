@@ -1,5 +1,5 @@
 -- Paper 01, "The directory": the rules of a directory, as tests that are computed once over a whole table.
-use Prim.Native.Nat.{ℕ, _*_}
+use Prim.Native.Nat.{ℕ, _+_, _*_}
 use mathlib.Core.List.{List, [], _∷_}
 use mathlib.Core.Bool.{Bool, true, _&&_, _||_, cond}
 use lib.Dec.{leb, ltb, eqb}
@@ -36,6 +36,13 @@ shaped it =
 abbrev pub roomOf : Item → ℕ
 roomOf it = cond (inBytes it) (it .fills) (2 * it .words)
 
--- what an item shows is a quantity, and has room in it
+-- what an item shows is a quantity, has room in it, and takes every word of it
 abbrev pub meant : Item → Bool
-meant it = leb 1 (widthOf (it .quantity)) && leb (widthOf (it .quantity)) (roomOf it)
+meant it =
+    leb 1 (widthOf (it .quantity)) &&
+    leb (widthOf (it .quantity)) (roomOf it) &&
+    ltb (2 * it .words) (2 + widthOf (it .quantity))
+
+-- the tests of a directory, computed over the whole of it
+abbrev pub tested : List Item → Bool
+tested its = ruled its && (every shaped its && every meant its)

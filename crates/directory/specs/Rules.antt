@@ -1,27 +1,31 @@
--- Paper 01, "The directory": what is true of the 142 items.
+-- Paper 01, "The directory": what is true of the 142 items, and of every directory that passes the tests as they do.
 use mathlib.Core.Path.{_≡_}
 use Prim.Native.Nat.{ℕ, _≤_, _<_}
 use mathlib.Core.Bool.{true, cond}
 use mathlib.Core.List.{List, [], _∷_}
-use lib.Dec.{eqb}
+use lib.Dec.{T, eqb}
 use lib.ListN.{length, getD}
 use Rattle.directory.specs.declared.Item.{Item}
 use Rattle.directory.specs.declared.Found.the-variants.{At}
 use Rattle.directory.specs.Item.{none, ends}
 use Rattle.directory.specs.Quantity.{energyCount, low, high, wrap, posEa, negEa, posEr, negEr}
 use Rattle.directory.specs.Table.{directory}
-use Rattle.directory.specs.Order.{shaped, meant}
+use Rattle.directory.specs.Order.{shaped, meant, tested}
+use Rattle.directory.specs.Views.{passes, own}
 use Rattle.directory.specs.Run.{findIn}
 
--- STATEMENT: there are 142 items; of two the later starts where the earlier ends, or after; each has the shape of an L, W
--- or B of its block; each shows a quantity, and has room for it; each is found by its start, and what is found starts there
+-- STATEMENT: there are 142 items, and they pass the tests. In every directory that does, of two items the later starts where the
+-- earlier ends, or after; each has the shape of an L, W or B of its block; each shows a quantity, and has room for it; each is found
+-- by its start, and what is found starts there
 pub record DirectoryRules : Type 0 where
   pub count : length directory ≡ 142
-  pub apart : (i j : ℕ) → i < j → j < length directory → ends (getD directory i none) ≤ getD directory j none .start
-  pub shapes : (i : ℕ) → i < length directory → shaped (getD directory i none) ≡ true
-  pub meanings : (i : ℕ) → i < length directory → meant (getD directory i none) ≡ true
-  pub found : (i : ℕ) → i < length directory → findIn directory (getD directory i none .start) 0 ≡ At i
-  pub starts : (address i : ℕ) → findIn directory address 0 ≡ At i → getD directory i none .start ≡ address
+  pub passed : T (passes own)
+  pub apart :
+      (dir : List Item) → T (tested dir) → (i j : ℕ) → i < j → j < length dir → ends (getD dir i none) ≤ getD dir j none .start
+  pub shapes : (dir : List Item) → T (tested dir) → (i : ℕ) → i < length dir → shaped (getD dir i none) ≡ true
+  pub meanings : (dir : List Item) → T (tested dir) → (i : ℕ) → i < length dir → meant (getD dir i none) ≡ true
+  pub found : (dir : List Item) → T (tested dir) → (i : ℕ) → i < length dir → findIn dir (getD dir i none .start) 0 ≡ At i
+  pub starts : (dir : List Item) (address i : ℕ) → findIn dir address 0 ≡ At i → getD dir i none .start ≡ address
 
 -- the addresses at which a quantity stands
 unfoldable pub placesOf : ℕ → List Item → List ℕ

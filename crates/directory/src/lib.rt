@@ -1,14 +1,14 @@
 // The directory of registers (paper 01, "The directory"): a flat constant table, an item found in it by its address,
-// and the run of items that a read asks for. What goes along a table takes any table, and how many of its first items
-// are to be seen; the public face goes along the meter's own.
+// and the run of items that a read asks for. What goes along a table takes any table, and how far it is to be seen;
+// the public face goes along the meter's own.
 pub mod quantity;
 pub mod table;
 
 ghost use mathlib.Core.Path.{_≡_};
-ghost use Prim.Native.Nat.{_+_, _*_, _≤_, _<_};
-ghost use lib.ListN.{length, take, getD};
+ghost use Prim.Native.Nat.{_+_, _*_, _≤_};
+ghost use lib.ListN.{length, take, drop, getD};
 ghost use lib.Dec.{T};
-ghost use Rattle.directory.specs.Item.{items, none};
+ghost use Rattle.directory.specs.Item.{items, none, isB};
 ghost use Rattle.directory.specs.Order.{ruled};
 ghost use Rattle.directory.specs.Run.{findIn, runIn};
 ghost use Rattle.directory.specs.Table.{directory};
@@ -21,8 +21,37 @@ pub struct Item {
     pub quantity: u16,
 }
 
+// From here on addresses count words. Before, they count bytes, and what fills one is a B.
+const WORD_BLOCKS: u16 = 0x1000;
+
+impl Item {
+    pub fn is_b(self) -> bool
+        ensures { λ r. ⌜ r ≡ isB self ⌝ }
+    {
+        (self.start < WORD_BLOCKS) & (self.fills == 1)
+    }
+}
+
 // How many items paper 01's table has.
 pub const ITEMS: usize = 142;
+
+// How far a table is seen, lent beside it: so many of its first items, and so many words in one read.
+pub struct Reach {
+    pub items: usize,
+    pub most: u16,
+}
+
+impl Reach {
+    // Paper 01's own.
+    pub fn own() -> Reach
+        ensures { λ r. ⌜ r ≡ record { items = 142; most = 120 } ⌝ }
+    {
+        Reach {
+            items: ITEMS,
+            most: 120,
+        }
+    }
+}
 
 pub enum Found {
     At(usize),
@@ -52,7 +81,7 @@ pub fn run(start: u16, words: u16) -> Span
 // The run for `words` words from `start`. An item that starts where the one before ends can only be the table's next,
 // so only the first is looked for.
 pub fn run_in(t: &[u16], n: usize, start: u16, words: u16) -> Span
-    requires { ⌜ (4 * n ≤ length (now t)) × T (ruled (items (now t))) ⌝ }
+    requires { ⌜ (4 * n ≤ length (now t)) × T (ruled (take n (items (now t)))) ⌝ }
     ensures { λ r. ⌜ r ≡ runIn (take n (items (now (t .entry)))) start words ⌝ }
 {
     let found = find_in(t, n, start);
@@ -85,7 +114,7 @@ pub fn run_in(t: &[u16], n: usize, start: u16, words: u16) -> Span
 
 // The index of the item that starts at an address. The table ascends, so what is left of it is halved at each look.
 fn find_in(t: &[u16], n: usize, address: u16) -> Found
-    requires { ⌜ (4 * n ≤ length (now t)) × T (ruled (items (now t))) ⌝ }
+    requires { ⌜ (4 * n ≤ length (now t)) × T (ruled (take n (items (now t)))) ⌝ }
     ensures { λ r. ⌜ r ≡ findIn (take n (items (now (t .entry)))) address 0 ⌝ }
 {
     let mut low: usize = 0;
@@ -103,6 +132,16 @@ fn find_in(t: &[u16], n: usize, address: u16) -> Found
         }
     }
     Found::Nothing
+}
+
+// The part of a table that holds a run of its items.
+pub fn part(t: &[u16], first: usize, count: usize) -> &[u16]
+    requires { ⌜ 4 * (first + count) ≤ length (now t) ⌝ }
+    ensures { λ r. ⌜ now r ≡ take (4 * count) (drop (4 * first) (now (t .entry))) ⌝ }
+{
+    let from = 4 * first;
+    let to = from + 4 * count;
+    &t[from..to]
 }
 
 // The item of index i.

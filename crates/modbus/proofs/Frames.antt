@@ -9,9 +9,9 @@ use lib.ListN.{length}
 use borrow.Author.Tests.{lt-ltb, le-ltb, ltb-false, leb-false, eqb-true, not-true}
 use Rattle.refusal.specs.declared.ErrorCode.the-variants.{Data}
 use Rattle.crc.specs.Crc.{intact}
-use Rattle.directory.specs.declared.Item.{Item}
 use Rattle.directory.specs.declared.Span.the-variants.{Error}
 use Rattle.directory.specs.Run.{runIn}
+use Rattle.directory.specs.Views.{View}
 use Rattle.modbus.specs.Frame.{addressOf, functionOf, startOf, wordNumber, byteNumber, silence, writeShaped}
 use Rattle.modbus.specs.Read.{numberWrong, readIn}
 
@@ -103,15 +103,15 @@ module _ (frame : List ℕ) where
       (ltb-false (length frame) 9 (not-true _ (t .0)), omega arith)
 
 -- a read, test by test
-module _ (dir : List Item) (frame : List ℕ) where
-  pub read-length : eqb (length frame) 8 ≡ false → Error Data ≡ readIn dir frame
+module _ (v : View) (frame : List ℕ) where
+  pub read-length : eqb (length frame) 8 ≡ false → Error Data ≡ readIn v frame
   unfolding readIn
   read-length h = rw h refl
 
-  pub read-number : eqb (length frame) 8 ≡ true → numberWrong (wordNumber frame) ≡ true → Error Data ≡ readIn dir frame
+  pub read-number : eqb (length frame) 8 ≡ true → numberWrong (v .most) (wordNumber frame) ≡ true → Error Data ≡ readIn v frame
   unfolding readIn
   read-number h k = rw (h, k) refl
 
-  pub read-run : eqb (length frame) 8 ≡ true → numberWrong (wordNumber frame) ≡ false → runIn dir (startOf frame) (wordNumber frame) ≡ readIn dir frame
+  pub read-run : eqb (length frame) 8 ≡ true → numberWrong (v .most) (wordNumber frame) ≡ false → runIn (v .seen) (startOf frame) (wordNumber frame) ≡ readIn v frame
   unfolding readIn
   read-run h k = rw (h, k) refl

@@ -5,17 +5,16 @@ use mathlib.Core.Bool.{Bool, true, false, _||_, not, cond, false≢true}
 use mathlib.Core.List.{List}
 use Prim.Native.Nat.{ℕ, _+_, _≤_}
 use native.Mathlib.Omega.{arith}
-use lib.Dec.{ltb, eqb}
+use lib.Dec.{T, ltb, eqb}
 use lib.ListN.{length}
 use borrow.Author.Tests.{ltb-false, eqb-true, eqb-false, eq-eqb}
 use Rattle.refusal.specs.declared.ErrorCode.the-variants.{Function, Address, Data}
-use Rattle.directory.specs.declared.Item.{Item}
 use Rattle.directory.specs.declared.Span.{Span}
 use Rattle.directory.specs.declared.Span.the-variants.{Items, Error}
-use Rattle.directory.specs.Table.{directory}
 use Rattle.directory.specs.Run.{runIn, runItems, wordsOf}
+use Rattle.directory.specs.Views.{View, passes}
 use Rattle.directory.proofs.Errors.{no-run, data-sound, run-sound}
-use Rattle.directory.proofs.Rules.{directory-ruled}
+use Rattle.directory.proofs.Views.{passes-ruled}
 use Rattle.directory.proofs.Sends.{run-sends}
 use Rattle.modbus.specs.Frame.{startOf, wordNumber}
 use Rattle.modbus.specs.Read.{numberWrong, readIn, ReadWhen}
@@ -24,18 +23,18 @@ use Rattle.modbus.proofs.Frames.{neither}
 data-address : Error Data ≡ Error Address → ⊥
 data-address e = let z : _≡_ {A = ℕ} 0 1 = cc in omega arith
 
-module _ (dir : List Item) (frame : List ℕ) where
+module _ (v : View) (frame : List ℕ) where
   abbrev t : Bool
   t = eqb (length frame) 8
 
   abbrev w : Bool
-  w = numberWrong (wordNumber frame)
+  w = numberWrong (v .most) (wordNumber frame)
 
   abbrev run : Span
-  run = runIn dir (startOf frame) (wordNumber frame)
+  run = runIn (v .seen) (startOf frame) (wordNumber frame)
 
   -- a span that is not error 03 comes from the run
-  ran : (span : Span) → (Error Data ≡ span → ⊥) → (readIn dir frame ≡ span) ↔ ((length frame ≡ 8) × (w ≡ false) × (run ≡ span))
+  ran : (span : Span) → (Error Data ≡ span → ⊥) → (readIn v frame ≡ span) ↔ ((length frame ≡ 8) × (w ≡ false) × (run ≡ span))
   unfolding readIn
   ran span n = (by t w refl refl, λ h. rw (eq-eqb _ _ (h .0), h .1) (h .2))
     where
@@ -44,7 +43,7 @@ module _ (dir : List Item) (frame : List ℕ) where
       by true false e f h = (eqb-true _ _ e, f, h)
       by false y e f h = absurd (n h)
 
-  wrong-data : (readIn dir frame ≡ Error Data) ↔ ((length frame ≡ 8 → ⊥) ⊎ (w ≡ true) ⊎ (run ≡ Error Data))
+  wrong-data : (readIn v frame ≡ Error Data) ↔ ((length frame ≡ 8 → ⊥) ⊎ (w ≡ true) ⊎ (run ≡ Error Data))
   unfolding readIn
   wrong-data = (by t w refl refl, back t w refl refl)
     where
@@ -63,26 +62,26 @@ module _ (dir : List Item) (frame : List ℕ) where
 pub read-when : ReadWhen
 read-when =
     record {
-      error-02 = λ dir frame. ran dir frame (Error Address) data-address;
+      error-02 = λ v frame. ran v frame (Error Address) data-address;
       error-03 = wrong-data;
-      items = λ dir frame first count. ran dir frame (Items first count) (no-run Data refl);
-      never = λ dir frame h. run-sound dir (startOf frame) (wordNumber frame) (ran dir frame (Error Function) data-sound .0 h .2);
+      items = λ v frame first count. ran v frame (Items first count) (no-run Data refl);
+      never = λ v frame h. run-sound (v .seen) (startOf frame) (wordNumber frame) (ran v frame (Error Function) data-sound .0 h .2);
     }
 
--- a read that is answered with data: its length, the most words it asks for; its items stand in the directory and send just those
-pub record LegalRead (frame : List ℕ) (first count : ℕ) : Type 0 where
+-- a read that is answered with data: its length, the most words it asks for; its items stand among those seen and send just those
+pub record LegalRead (v : View) (frame : List ℕ) (first count : ℕ) : Type 0 where
   pub long : length frame ≡ 8
-  pub most : wordNumber frame ≤ 120
-  pub inside : first + count ≤ length directory
-  pub sends : wordsOf (runItems directory first count) ≡ wordNumber frame
+  pub most : wordNumber frame ≤ v .most
+  pub inside : first + count ≤ length (v .seen)
+  pub sends : wordsOf (runItems (v .seen) first count) ≡ wordNumber frame
 
-pub legal-read : {frame : List ℕ} {first count : ℕ} → readIn directory frame ≡ Items first count → LegalRead frame first count
-legal-read {frame} {first} {count} e =
-    let t = read-when .items directory frame first count .0 e in
-    let n = neither (ltb (wordNumber frame) 1) (ltb 120 (wordNumber frame)) (t .1) in
+pub legal-read : (v : View) → T (passes v) → {frame : List ℕ} {first count : ℕ} → readIn v frame ≡ Items first count → LegalRead v frame first count
+legal-read v good {frame} {first} {count} e =
+    let t = read-when .items v frame first count .0 e in
+    let n = neither (ltb (wordNumber frame) 1) (ltb (v .most) (wordNumber frame)) (t .1) in
     record {
       long = t .0;
-      most = ltb-false 120 (wordNumber frame) (n .1);
-      inside = run-sends .inside directory _ _ first count directory-ruled (t .2);
-      sends = run-sends .sends directory _ _ first count directory-ruled (t .2);
+      most = ltb-false (v .most) (wordNumber frame) (n .1);
+      inside = run-sends .inside (v .seen) _ _ first count (passes-ruled v good) (t .2);
+      sends = run-sends .sends (v .seen) _ _ first count (passes-ruled v good) (t .2);
     }

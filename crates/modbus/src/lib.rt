@@ -2,14 +2,13 @@
 // how a read is judged, the shape of a write, and the replies that carry no measurement.
 ghost use mathlib.Core.Path.{_≡_};
 ghost use Prim.Native.Nat.{_+_, _*_, _≤_, _<_};
-ghost use lib.Dec.{T};
-ghost use lib.ListN.{length, take};
+ghost use lib.ListN.{length};
 ghost use lib.Seq.{sets};
-ghost use Rattle.directory.specs.Item.{items};
-ghost use Rattle.directory.specs.Order.{ruled};
+ghost use Rattle.directory.specs.Views.{viewOf, Lent};
 ghost use Rattle.modbus.specs.Frame.{functionOf, silence, writeShaped, wordsAt};
 ghost use Rattle.modbus.specs.Read.{readIn};
 ghost use Rattle.modbus.specs.Replies.{errorReply, echoReply};
+use directory::Reach;
 use directory::Span;
 use refusal::ErrorCode;
 
@@ -38,8 +37,6 @@ const BYTE_NUMBER: usize = 6;
 pub const DATA_HEAD: usize = 3;
 
 const READ_LENGTH: usize = 8;
-
-const WORDS_MOST: u16 = 120;
 
 // Of a write: the bytes before its values, and all but its values.
 const WRITE_HEAD: usize = 7;
@@ -70,19 +67,24 @@ pub fn silence(own: u8, frame: &[u8]) -> bool
     !crc::intact(frame)
 }
 
-// How a read is judged over the first n items of a table: the items it asks for, or what is wrong with it.
-pub fn read_in(t: &[u16], n: usize, frame: &[u8]) -> Span
-    requires { ⌜ (4 * n ≤ length (now t)) × T (ruled (items (now t))) ⌝ }
-    ensures { λ r. ⌜ r ≡ readIn (take n (items (now (t .entry)))) (now (frame .entry)) ⌝ }
+// How a read is judged over a table that is lent: the items it asks for, or what is wrong with it.
+pub fn read_in(t: &[u16], reach: Reach, frame: &[u8]) -> Span
+    requires { ⌜ Lent (now t) reach ⌝ }
+    ensures { λ r. ⌜ r ≡ readIn (viewOf (now (t .entry)) reach) (now (frame .entry)) ⌝ }
 {
     if frame.len() != READ_LENGTH {
         return Span::Error(ErrorCode::Data);
     }
     let words = words::word_at(frame, WORD_NUMBER);
-    if (words < 1) | (WORDS_MOST < words) {
+    if (words < 1) | (reach.most < words) {
         return Span::Error(ErrorCode::Data);
     }
-    directory::run_in(t, n, words::word_at(frame, START), words)
+    directory::run_in(
+        t,
+        reach.items,
+        words::word_at(frame, START),
+        words,
+    )
 }
 
 // Whether a write has the words and bytes that it says.

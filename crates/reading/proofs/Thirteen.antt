@@ -5,7 +5,7 @@ use mathlib.Core.Bool.{Bool, true, false, _&&_, _||_, not, cond, false≢true, o
 use mathlib.Core.List.{List, [], _∷_}
 use Prim.Native.Nat.{ℕ, zero, suc, _+_, _*_, _/_, _%_, _<_}
 use native.Mathlib.Omega.{arith}
-use lib.Dec.{leb, ltb, eqb}
+use lib.Dec.{T, leb, ltb, eqb}
 use lib.ListN.{length, getD}
 use borrow.Author.Tests.{leb-true, leb-false, lt-ltb, le-ltb}
 use Rattle.refusal.specs.Numbers.{refusedBy}
@@ -14,16 +14,16 @@ use Rattle.words.specs.Signed.{magnitudeIn}
 use Rattle.ratio.specs.Ratios.{ktaOk, ktvOk}
 use Rattle.counts.specs.Energies.{topCount, topLow, topHigh}
 use Rattle.directory.specs.declared.Item.{Item}
-use Rattle.directory.specs.Item.{none}
+use Rattle.directory.specs.Item.{none, isB}
+use Rattle.directory.specs.Order.{tested}
 use Rattle.directory.specs.Run.{isL}
-use Rattle.directory.specs.Table.{directory}
 use Rattle.directory.proofs.ByKind.{_also_}
 use Rattle.reading.specs.declared.Quantity.{Quantity}
 use Rattle.reading.specs.declared.Quantity.the-variants.{Voltage, Current, Power, SignedPower, Low, High, Wrap, Factor, Sign, Sector, Frequency, Kta, Ktv, Sequence, Plain}
 use Rattle.reading.specs.declared.Answer.{Answer}
 use Rattle.reading.specs.declared.Answer.the-variants.{Reading}
 use Rattle.reading.specs.Cases.{kindOf, told}
-use Rattle.reading.specs.Readings.{impossible, when, times, signedIn, unitOf, counted, longs, shorts, longOf, wordOf, isB, readingOf}
+use Rattle.reading.specs.Readings.{impossible, when, times, signedIn, unitOf, counted, longs, shorts, longOf, wordOf, readingOf}
 use Rattle.reading.specs.Impossible.{oneOf, thirteen, ThirteenWhen}
 use Rattle.reading.proofs.Told.{one-answer-each}
 use Rattle.reading.proofs.ByKind.{Each, each-at}
@@ -223,12 +223,12 @@ entry-number (reads x e h) n f = absurd (omega (arith, ap caseIn (sym (ap told e
 entry-number (refused e) n f = sym (ap numberIn (sym (ap told e) ∙ f))
 
 -- 13 by its name
-pub refused-at : (t i v : ℕ) → i < length directory → (readingOf t (getD directory i none) v ≡ impossible) ↔ (thirteen (getD directory i none) v ≡ true)
-refused-at t i v h = refused-when t (getD directory i none) v (wide-at i h)
+pub refused-at : (dir : List Item) → T (tested dir) → (t i v : ℕ) → i < length dir → (readingOf t (getD dir i none) v ≡ impossible) ↔ (thirteen (getD dir i none) v ≡ true)
+refused-at dir tests t i v h = refused-when t (getD dir i none) v (wide-at dir tests i h)
 
 pub thirteen-when : ThirteenWhen
 thirteen-when = record {
-  row-13 = λ t i v h. Iff·trans (one-answer-each .answers (readingOf t (getD directory i none) v) impossible, λ e. ap told e) (refused-at t i v h);
-  only = λ t i v. entry-number (item-entry t (getD directory i none) v);
-  reads = λ t i v. entry-kind (item-entry t (getD directory i none) v);
+  row-13 = λ dir tests t i v h. Iff·trans (one-answer-each .answers (readingOf t (getD dir i none) v) impossible, λ e. ap told e) (refused-at dir tests t i v h);
+  only = λ t it v. entry-number (item-entry t it v);
+  reads = λ t it v. entry-kind (item-entry t it v);
 }

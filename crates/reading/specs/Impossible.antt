@@ -4,20 +4,20 @@ use mathlib.Core.Logic.{_↔_}
 use Prim.Native.Nat.{ℕ, _/_, _<_}
 use mathlib.Core.Bool.{Bool, true, false, _&&_, _||_, not, cond}
 use mathlib.Core.List.{List, [], _∷_}
-use lib.Dec.{leb, ltb, eqb}
+use lib.Dec.{T, leb, ltb, eqb}
 use lib.ListN.{length, getD}
 use Rattle.refusal.specs.Numbers.{refusedBy}
 use Rattle.words.specs.Signed.{magnitudeIn}
 use Rattle.ratio.specs.Ratios.{ktaOk, ktvOk}
 use Rattle.counts.specs.Energies.{topCount, topLow, topHigh}
 use Rattle.directory.specs.declared.Item.{Item}
-use Rattle.directory.specs.Item.{none}
-use Rattle.directory.specs.Table.{directory}
+use Rattle.directory.specs.Item.{none, isB}
+use Rattle.directory.specs.Order.{tested}
 use Rattle.directory.specs.Run.{isL}
 use Rattle.reading.specs.declared.Quantity.{Quantity}
 use Rattle.reading.specs.declared.Answer.the-variants.{Reading}
 use Rattle.reading.specs.Cases.{kindOf, told}
-use Rattle.reading.specs.Readings.{isB, readingOf}
+use Rattle.reading.specs.Readings.{readingOf}
 
 -- the kind of an item's quantity
 abbrev pub isKind : ℕ → Item → Bool
@@ -47,13 +47,11 @@ thirteen it v = oneOf (
     (isKind 14 it && not (ktvOk v)) ∷
     [])
 
--- STATEMENT: an item of the directory is refused with 13 exactly when its value is in the row, and with no other number; else its
--- reading is of its quantity's kind
+-- STATEMENT: an item of a directory that passes the tests is refused with 13 exactly when its value is in the row; no item is with another
+-- number, and what is read of one is of its quantity's kind
 pub record ThirteenWhen : Type 0 where
   pub row-13 :
-      (t i v : ℕ) → i < length directory →
-      (told (readingOf t (getD directory i none) v) ≡ refusedBy 13) ↔ (thirteen (getD directory i none) v ≡ true)
-  pub only : (t i v n : ℕ) → told (readingOf t (getD directory i none) v) ≡ refusedBy n → n ≡ 13
-  pub reads :
-      (t i v : ℕ) (q : Quantity) → readingOf t (getD directory i none) v ≡ Reading q →
-      kindOf q ≡ getD directory i none .quantity / 64
+      (dir : List Item) → T (tested dir) → (t i v : ℕ) → i < length dir →
+      (told (readingOf t (getD dir i none) v) ≡ refusedBy 13) ↔ (thirteen (getD dir i none) v ≡ true)
+  pub only : (t : ℕ) (it : Item) (v n : ℕ) → told (readingOf t it v) ≡ refusedBy n → n ≡ 13
+  pub reads : (t : ℕ) (it : Item) (v : ℕ) (q : Quantity) → readingOf t it v ≡ Reading q → kindOf q ≡ it .quantity / 64

@@ -13,7 +13,7 @@ use Rattle.ratio.specs.Powers.{powerUnit}
 use Rattle.ratio.specs.Steps.{stepOf}
 use Rattle.counts.specs.Energies.{topCount, topLow, topHigh, energyOf}
 use Rattle.directory.specs.declared.Item.{Item}
-use Rattle.directory.specs.Item.{inBytes}
+use Rattle.directory.specs.Item.{isB}
 use Rattle.directory.specs.Quantity.{wholeS}
 use Rattle.directory.specs.Run.{isL}
 use Rattle.reading.specs.declared.Quantity.{Quantity}
@@ -89,10 +89,6 @@ longOf t q v = getD (longs t (q % 64) v) (q / 64) impossible
 -- a W, or a B if so told: with its upper byte set it is impossible
 unfoldable pub wordOf : ℕ → Bool → ℕ → Answer
 wordOf q b v = cond (b && leb 256 v) impossible (getD (shorts v) (q / 64) impossible)
-
--- B stands in the byte block alone, where it fills 1
-abbrev pub isB : Item → Bool
-isB it = inBytes it && eqb (it .fills) 1
 
 -- an item of value v
 abbrev pub readingOf : ℕ → Item → ℕ → Answer

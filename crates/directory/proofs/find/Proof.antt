@@ -2,7 +2,7 @@
 use native.Mathlib.Omega.{arith}
 use Rattle.directory.specs.Item.{items}
 use Rattle.directory.specs.Table.{directory}
-use Rattle.directory.proofs.Rules.{directory-ruled}
+use Rattle.directory.proofs.Rules.{own-ruled}
 use borrow.Author.Needs.{needs}
 use Rattle.directory.proofs.find.Statement.{statement}
 use Rattle.directory.proofs.find.Tie as tie
@@ -12,7 +12,7 @@ slice-aggregate-find-in c = search needs
 
 find-in-requires : tie.Need-find-in-requires
 unfolding directory items
-find-in-requires c κs = (omega arith, directory-ruled)
+find-in-requires c κs = (omega arith, own-ruled)
 
 returns : tie.Need-returns
 unfolding directory items

@@ -4,8 +4,8 @@ use Prim.Native.Nat.{_+_, _-_, _/_, _≤_, _<_}
 use native.Mathlib.Omega.{arith}
 use lib.ListN.{length, take, getD}
 use Rattle.directory.specs.Item.{items, none}
-use Rattle.directory.proofs.Order.{Ascends}
-use Rattle.directory.proofs.Views.{view-length, view-item, view-ascends}
+use Rattle.directory.proofs.Order.{Ascends, ruled-ascends}
+use Rattle.directory.proofs.Views.{view-length, view-item}
 use Rattle.directory.proofs.Finds.{found-here, Window, window-whole, window-up, window-down, window-empty}
 use Rattle.directory.proofs.find_in.Statement.{statement}
 use Rattle.directory.proofs.find_in.Tie as tie
@@ -18,7 +18,7 @@ abbrev μ-loop : tie.MeasureT-loop
 
 -- the view that is searched, and the item in the middle
 ascends : (s : tie.Start Inv-loop μ-loop) → Ascends 0 (take (s .args .n) (items (s .args .t .now)))
-ascends s = view-ascends (s .args .t .now) (s .args .n) (s .pre .0) (s .pre .1)
+ascends s = ruled-ascends (take (s .args .n) (items (s .args .t .now))) (s .pre .1)
 
 size : (s : tie.Start Inv-loop μ-loop) → length (take (s .args .n) (items (s .args .t .now))) ≡ s .args .n
 size s = view-length (s .args .t .now) (s .args .n) (s .pre .0)

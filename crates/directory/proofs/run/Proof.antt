@@ -2,7 +2,7 @@
 use native.Mathlib.Omega.{arith}
 use Rattle.directory.specs.Item.{items}
 use Rattle.directory.specs.Table.{directory}
-use Rattle.directory.proofs.Rules.{directory-ruled}
+use Rattle.directory.proofs.Rules.{own-ruled}
 use borrow.Author.Needs.{needs}
 use Rattle.directory.proofs.run.Statement.{statement}
 use Rattle.directory.proofs.run.Tie as tie
@@ -12,7 +12,7 @@ slice-aggregate-run-in c = search needs
 
 run-in-requires : tie.Need-run-in-requires
 unfolding directory items
-run-in-requires c κs = (omega arith, directory-ruled)
+run-in-requires c κs = (omega arith, own-ruled)
 
 returns : tie.Need-returns
 unfolding directory items

@@ -9,8 +9,8 @@ use Rattle.directory.specs.declared.Item.{Item}
 use Rattle.directory.specs.declared.Found.the-variants.{At, Nothing}
 use Rattle.directory.specs.Item.{items, none}
 use Rattle.directory.specs.Run.{findIn, runFrom, runIn}
-use Rattle.directory.proofs.Order.{Ascends, Narrow}
-use Rattle.directory.proofs.Views.{view-length, view-item, view-ascends, view-narrow}
+use Rattle.directory.proofs.Order.{Ascends, Narrow, ruled-ascends, ruled-narrow}
+use Rattle.directory.proofs.Views.{view-length, view-item}
 use Rattle.directory.proofs.Finds.{found-inside}
 use Rattle.directory.proofs.Runs.{Stands, stands-first, stands-end, run-nowhere, run-starts, run-done, run-gap, turn-gap, turn-half, turn-next, turn-stands}
 use Rattle.directory.proofs.run_in.Statement.{statement}
@@ -34,7 +34,7 @@ size : (s : tie.Start Inv-loop μ-loop) → length (view s) ≡ s .args .n
 size s = view-length (s .args .t .now) (s .args .n) (s .pre .0)
 
 ascends : (s : tie.Start Inv-loop μ-loop) → Ascends 0 (view s)
-ascends s = view-ascends (s .args .t .now) (s .args .n) (s .pre .0) (s .pre .1)
+ascends s = ruled-ascends (view s) (s .pre .1)
 
 -- the item that the run stands at
 abbrev place : tie.After-item-at Inv-loop μ-loop → tie.At-loop Inv-loop μ-loop
@@ -54,7 +54,7 @@ seen e =
 narrow : (e : tie.After-item-at Inv-loop μ-loop) → Narrow (getD (view (entry (place e))) (place e .loop .i) none)
 narrow e =
     let s = entry (place e) in
-    view-narrow (s .args .t .now) (s .args .n) (s .pre .0) (s .pre .1) _ (omega arith)
+    ruled-narrow (view s) (s .pre .1) _ (inside e)
 
 find-in-requires : tie.Need-find-in-requires Inv-loop μ-loop
 find-in-requires c κs = c .before .pre
