@@ -1,19 +1,19 @@
 -- Where the words of an item stand: behind those of the items before it.
-use mathlib.Core.Path.{_≡_, sym, _∙_}
+use mathlib.Core.Path.{_≡_, _∙_}
 use mathlib.Core.List.{List, [], _∷_}
 use Prim.Native.Nat.{ℕ, zero, suc, _+_, _≤_, _<_}
 use native.Mathlib.Omega.{arith}
 use lib.ListN.{length, getD, take, drop, length-drop}
-use lib.Seq.{getD-take, getD-drop, take-take, length-take-le}
+use lib.Seq.{getD-take, getD-drop, length-take-le}
 use borrow.Author.Tests.{lt-ltb, le-ltb}
 use Rattle.refusal.specs.declared.Refusal.the-variants.{IndexPastItems}
 use Rattle.words.specs.Words.{wordAt, valueAt}
 use Rattle.words.proofs.Laws.{value-word}
 use Rattle.directory.specs.declared.Item.{Item}
-use Rattle.directory.specs.Item.{none}
+use Rattle.directory.specs.Item.{none, isB}
 use Rattle.directory.specs.Run.{runItems, wordsOf}
 use Rattle.reading.specs.declared.Answer.the-variants.{Refused}
-use Rattle.reading.specs.Readings.{longOf, wordOf, isB, readingOf}
+use Rattle.reading.specs.Readings.{longOf, wordOf, readingOf}
 use Rattle.collector.specs.Collector.{placeOf, itemOf}
 
 -- one item more
@@ -22,12 +22,6 @@ unfolding wordsOf
 words-upto [] i h = absurd (omega (arith, h))
 words-upto (it ∷ its) zero h = omega arith
 words-upto (it ∷ its) (suc i) h = omega (arith, words-upto its i (omega (arith, h)))
-
--- one item more of a run
-pub place-on : (dir : List Item) (first i : ℕ) → first + i < length dir → wordsOf (take (i + 1) (drop first dir)) ≡ wordsOf (take i (drop first dir)) + getD dir (first + i) none .words
-place-on dir first i h =
-    let next : i + 1 ≡ suc i = omega arith in
-    rw (next, sym (getD-drop first dir i none)) (words-upto (drop first dir) i (omega (arith, h, length-drop first dir)))
 
 -- the words of an item stand inside those of the run
 pub words-within : (its : List Item) (i : ℕ) → i < length its → wordsOf (take i its) + getD its i none .words ≤ wordsOf its
@@ -44,9 +38,6 @@ module _ (dir : List Item) (first count : ℕ) where
 
   pub run-at : (i : ℕ) → i < count → getD (runItems dir first count) i none ≡ getD dir (first + i) none
   run-at i h = getD-take count (drop first dir) i none h ∙ getD-drop first dir i none
-
-  pub run-front : (i : ℕ) → i ≤ count → take i (runItems dir first count) ≡ take i (drop first dir)
-  run-front i h = take-take i count (drop first dir) h
 
 -- ---- what an item's words say
 

@@ -5,7 +5,7 @@ use mathlib.Core.Logic.{_↔_, _⊎_}
 use Prim.Native.Nat.{ℕ, _+_, _*_, _≤_, _<_}
 use mathlib.Core.Bool.{Bool, true, false, _||_, not}
 use mathlib.Core.List.{List}
-use lib.Dec.{ltb, eqb}
+use lib.Dec.{T, ltb, eqb}
 use lib.ListN.{length, getD}
 use Rattle.refusal.specs.declared.ErrorCode.{ErrorCode}
 use Rattle.refusal.specs.Numbers.{refusedBy, errorBy}
@@ -18,8 +18,8 @@ use Rattle.counts.specs.Energies.{topCount, topLow, topHigh, joinOf, joinHalves
 use Rattle.directory.specs.declared.Item.{Item}
 use Rattle.directory.specs.declared.Span.the-variants.{Items}
 use Rattle.directory.specs.Item.{none}
-use Rattle.directory.specs.Table.{directory}
 use Rattle.directory.specs.Run.{runItems}
+use Rattle.directory.specs.Views.{View, passes}
 use Rattle.modbus.specs.Frame.{addressOf, wordNumber}
 use Rattle.modbus.specs.Read.{readIn}
 use Rattle.reading.specs.declared.Quantity.{Quantity}
@@ -27,119 +27,123 @@ use Rattle.reading.specs.declared.Answer.the-variants.{Reading, Error}
 use Rattle.reading.specs.Cases.{told}
 use Rattle.reading.specs.Readings.{readingOf}
 use Rattle.reading.specs.Impossible.{thirteen}
-use Rattle.collector.specs.Collector.{heard, lengthWrong, isReadError, foreign, thirdOf, misfit, placeOf, collectorOf}
-
--- a read that a meter of that own address, 1 to 255, answers with data, and the items that it asks for
-pub record Asks (request : List ℕ) : Type 0 where
-  pub hears : heard request ≡ true
-  pub first : ℕ
-  pub count : ℕ
-  pub items : readIn directory request ≡ Items first count
-
--- 3 and 7 are passed
-pub record Asked (request : List ℕ) (r : Ratios) : Type 0 where
-  pub ratios : ratiosOk r ≡ true
-  pub asks : Asks request
-
--- 8 to 10 are passed
-pub record Sound (request reply : List ℕ) (r : Ratios) : Type 0 where
-  pub asked : Asked request r
-  pub long : lengthWrong reply ≡ false
-  pub whole : intact reply ≡ true
-  pub own : foreign request reply ≡ false
-
--- and 11 is passed, with 0x03
-pub record Fits (request reply : List ℕ) (r : Ratios) : Type 0 where
-  pub sound : Sound request reply r
-  pub words : isReadError reply ≡ false
-  pub fits : misfit request reply ≡ false
-
--- what was asked for, of a reply that fits
-abbrev pub askedBy : {request reply : List ℕ} {r : Ratios} → Fits request reply r → Asks request
-askedBy fits = fits .sound .asked .asks
-
--- and 12 is passed
-pub record Holds (request reply : List ℕ) (r : Ratios) (index : ℕ) : Type 0 where
-  pub fits : Fits request reply r
-  pub below : index < askedBy fits .count
-
--- the item of an index
-abbrev pub itemAt : {request : List ℕ} → Asks request → ℕ → Item
-itemAt asks index = getD directory (asks .first + index) none
-
--- the value of its words in the reply
-abbrev pub valueIn : {request : List ℕ} → Asks request → List ℕ → ℕ → ℕ
-valueIn asks reply index = valueAt (itemAt asks index .words) reply (placeOf (runItems directory (asks .first) (asks .count)) index)
+use Rattle.collector.specs.Collector.{heard, lengthWrong, isReadError, foreign, thirdOf, misfit, placeOf, collectorIn}
 
 -- 11, of 0x83: length not 5 or code not 1 to 3
 abbrev pub errorMisfit : List ℕ → Bool
 errorMisfit reply = not (eqb (length reply) 5) || (ltb (thirdOf reply) 1 || ltb 3 (thirdOf reply))
 
--- 10: address or function of another
-abbrev pub Foreign : List ℕ → List ℕ → Ratios → Type 0
-Foreign request reply r =
-    Asked request r × (lengthWrong reply ≡ false) × (intact reply ≡ true) × (foreign request reply ≡ true)
+-- by the view of the meter that was asked
+module _ (v : View) where
+  -- a read that a meter of that own address, 1 to 255, answers with data, and the items that it asks for
+  pub record Asks (request : List ℕ) : Type 0 where
+    pub hears : heard request ≡ true
+    pub first : ℕ
+    pub count : ℕ
+    pub items : readIn v request ≡ Items first count
 
--- 11: an error reply of another length or code, or data of another byte number or length
-abbrev pub Misfits : List ℕ → List ℕ → Ratios → Type 0
-Misfits request reply r =
-    Sound request reply r ×
-    (((isReadError reply ≡ true) × (errorMisfit reply ≡ true)) ⊎ ((isReadError reply ≡ false) × (misfit request reply ≡ true)))
+  -- 3 and 7 are passed
+  pub record Asked (request : List ℕ) (r : Ratios) : Type 0 where
+    pub ratios : ratiosOk r ≡ true
+    pub asks : Asks request
 
--- 12: index not below the number of items
-pub record Past (request reply : List ℕ) (r : Ratios) (index : ℕ) : Type 0 where
-  pub fits : Fits request reply r
-  pub past : askedBy fits .count ≤ index
+  -- 8 to 10 are passed
+  pub record Sound (request reply : List ℕ) (r : Ratios) : Type 0 where
+    pub asked : Asked request r
+    pub long : lengthWrong reply ≡ false
+    pub whole : intact reply ≡ true
+    pub own : foreign request reply ≡ false
 
--- 13: value impossible
-pub record Impossible (request reply : List ℕ) (r : Ratios) (index : ℕ) : Type 0 where
-  pub holds : Holds request reply r index
-  pub value : thirteen (itemAt (askedBy (holds .fits)) index) (valueIn (askedBy (holds .fits)) reply index) ≡ true
+  -- and 11 is passed, with 0x03
+  pub record Fits (request reply : List ℕ) (r : Ratios) : Type 0 where
+    pub sound : Sound request reply r
+    pub words : isReadError reply ≡ false
+    pub fits : misfit request reply ≡ false
 
--- the meter's error code, given after 11 whatever the index
-pub record Errs (request reply : List ℕ) (r : Ratios) (code : ℕ) : Type 0 where
-  pub sound : Sound request reply r
-  pub error : isReadError reply ≡ true
-  pub long : length reply ≡ 5
-  pub says : thirdOf reply ≡ code
-  pub some : 1 ≤ code
-  pub most : code ≤ 3
+  -- what was asked for, of a reply that fits
+  abbrev pub askedBy : {request reply : List ℕ} {r : Ratios} → Fits request reply r → Asks request
+  askedBy fits = fits .sound .asked .asks
 
--- the reading of the item asked
-pub record Reads (request reply : List ℕ) (r : Ratios) (index : ℕ) (q : Quantity) : Type 0 where
-  pub holds : Holds request reply r index
-  pub reading : readingOf (tOf r) (itemAt (askedBy (holds .fits)) index) (valueIn (askedBy (holds .fits)) reply index) ≡ Reading q
+  -- and 12 is passed
+  pub record Holds (request reply : List ℕ) (r : Ratios) (index : ℕ) : Type 0 where
+    pub fits : Fits request reply r
+    pub below : index < askedBy fits .count
 
--- an answer in the paper's numbers
-abbrev pub Comes : List ℕ → List ℕ → Ratios → ℕ → List ℕ → Type 0
-Comes request reply r index numbers = told (collectorOf request reply r index) ≡ numbers
+  -- the item of an index
+  abbrev pub itemAt : {request : List ℕ} → Asks request → ℕ → Item
+  itemAt asks index = getD (v .seen) (asks .first + index) none
 
--- of one call: the rows of the table by their numbers, in the paper's reading order, first that applies; no other number; the error
--- codes; the readings
-pub record Rows (request reply : List ℕ) (r : Ratios) (index : ℕ) : Type 0 where
-  pub row-3 : Comes request reply r index (refusedBy 3) ↔ (ratiosOk r ≡ false)
-  pub row-7 : Comes request reply r index (refusedBy 7) ↔ ((ratiosOk r ≡ true) × (Asks request → ⊥))
-  pub row-8 : Comes request reply r index (refusedBy 8) ↔ (Asked request r × (lengthWrong reply ≡ true))
-  pub row-9 : Comes request reply r index (refusedBy 9) ↔ (Asked request r × (lengthWrong reply ≡ false) × (intact reply ≡ false))
-  pub row-10 : Comes request reply r index (refusedBy 10) ↔ Foreign request reply r
-  pub row-11 : Comes request reply r index (refusedBy 11) ↔ Misfits request reply r
-  pub row-12 : Comes request reply r index (refusedBy 12) ↔ Past request reply r index
-  pub row-13 : Comes request reply r index (refusedBy 13) ↔ Impossible request reply r index
-  pub only : (n : ℕ) → Comes request reply r index (refusedBy n) → (n ≡ 3) ⊎ ((7 ≤ n) × (n ≤ 13))
-  pub error : (code : ℕ) → Comes request reply r index (errorBy code) ↔ Errs request reply r code
-  pub reading : (q : Quantity) → (collectorOf request reply r index ≡ Reading q) ↔ Reads request reply r index q
+  -- the value of its words in the reply
+  abbrev pub valueIn : {request : List ℕ} → Asks request → List ℕ → ℕ → ℕ
+  valueIn asks reply index = valueAt (itemAt asks index .words) reply (placeOf (runItems (v .seen) (asks .first) (asks .count)) index)
 
--- STATEMENT: each refusal, each error code and each reading is given exactly when its row or rule says
+  -- 10: address or function of another
+  abbrev pub Foreign : List ℕ → List ℕ → Ratios → Type 0
+  Foreign request reply r =
+      Asked request r × (lengthWrong reply ≡ false) × (intact reply ≡ true) × (foreign request reply ≡ true)
+
+  -- 11: an error reply of another length or code, or data of another byte number or length
+  abbrev pub Misfits : List ℕ → List ℕ → Ratios → Type 0
+  Misfits request reply r =
+      Sound request reply r ×
+      (((isReadError reply ≡ true) × (errorMisfit reply ≡ true)) ⊎ ((isReadError reply ≡ false) × (misfit request reply ≡ true)))
+
+  -- 12: index not below the number of items
+  pub record Past (request reply : List ℕ) (r : Ratios) (index : ℕ) : Type 0 where
+    pub fits : Fits request reply r
+    pub past : askedBy fits .count ≤ index
+
+  -- 13: value impossible
+  pub record Impossible (request reply : List ℕ) (r : Ratios) (index : ℕ) : Type 0 where
+    pub holds : Holds request reply r index
+    pub value : thirteen (itemAt (askedBy (holds .fits)) index) (valueIn (askedBy (holds .fits)) reply index) ≡ true
+
+  -- the meter's error code, given after 11 whatever the index
+  pub record Errs (request reply : List ℕ) (r : Ratios) (code : ℕ) : Type 0 where
+    pub sound : Sound request reply r
+    pub error : isReadError reply ≡ true
+    pub long : length reply ≡ 5
+    pub says : thirdOf reply ≡ code
+    pub some : 1 ≤ code
+    pub most : code ≤ 3
+
+  -- the reading of the item asked
+  pub record Reads (request reply : List ℕ) (r : Ratios) (index : ℕ) (q : Quantity) : Type 0 where
+    pub holds : Holds request reply r index
+    pub reading : readingOf (tOf r) (itemAt (askedBy (holds .fits)) index) (valueIn (askedBy (holds .fits)) reply index) ≡ Reading q
+
+  -- an answer in the paper's numbers
+  abbrev pub Comes : List ℕ → List ℕ → Ratios → ℕ → List ℕ → Type 0
+  Comes request reply r index numbers = told (collectorIn v request reply r index) ≡ numbers
+
+  -- of one call: the rows of the table by their numbers, in the paper's reading order, first that applies; no other number; the error
+  -- codes; the readings
+  pub record Rows (request reply : List ℕ) (r : Ratios) (index : ℕ) : Type 0 where
+    pub row-3 : Comes request reply r index (refusedBy 3) ↔ (ratiosOk r ≡ false)
+    pub row-7 : Comes request reply r index (refusedBy 7) ↔ ((ratiosOk r ≡ true) × (Asks request → ⊥))
+    pub row-8 : Comes request reply r index (refusedBy 8) ↔ (Asked request r × (lengthWrong reply ≡ true))
+    pub row-9 : Comes request reply r index (refusedBy 9) ↔ (Asked request r × (lengthWrong reply ≡ false) × (intact reply ≡ false))
+    pub row-10 : Comes request reply r index (refusedBy 10) ↔ Foreign request reply r
+    pub row-11 : Comes request reply r index (refusedBy 11) ↔ Misfits request reply r
+    pub row-12 : Comes request reply r index (refusedBy 12) ↔ Past request reply r index
+    pub row-13 : Comes request reply r index (refusedBy 13) ↔ Impossible request reply r index
+    pub only : (n : ℕ) → Comes request reply r index (refusedBy n) → (n ≡ 3) ⊎ ((7 ≤ n) × (n ≤ 13))
+    pub error : (code : ℕ) → Comes request reply r index (errorBy code) ↔ Errs request reply r code
+    pub reading : (q : Quantity) → (collectorIn v request reply r index ≡ Reading q) ↔ Reads request reply r index q
+
+-- STATEMENT: over every view that passes the tests, each refusal, each error code and each reading is given exactly when its row or rule says
 pub record ExactlyWhen : Type 0 where
-  pub rows : (request reply : List ℕ) (r : Ratios) (index : ℕ) → Rows request reply r index
+  pub rows : (v : View) → T (passes v) → (request reply : List ℕ) (r : Ratios) (index : ℕ) → Rows v request reply r index
 
 -- STATEMENT: nothing is read out of a reply whose CRC is wrong, whose address is another's, or whose words are not as many as were asked
 pub record NotMisread : Type 0 where
   pub reading :
-      (request reply : List ℕ) (r : Ratios) (index : ℕ) (q : Quantity) → collectorOf request reply r index ≡ Reading q →
+      (v : View) → T (passes v) → (request reply : List ℕ) (r : Ratios) (index : ℕ) (q : Quantity) →
+      collectorIn v request reply r index ≡ Reading q →
       (intact reply ≡ true) × (addressOf reply ≡ addressOf request) × (length reply ≡ 5 + 2 * wordNumber request)
   pub error :
-      (request reply : List ℕ) (r : Ratios) (index : ℕ) (code : ErrorCode) → collectorOf request reply r index ≡ Error code →
+      (v : View) → T (passes v) → (request reply : List ℕ) (r : Ratios) (index : ℕ) (code : ErrorCode) →
+      collectorIn v request reply r index ≡ Error code →
       (intact reply ≡ true) × (addressOf reply ≡ addressOf request)
 
 -- STATEMENT: joining: 3 (counts only), then 14, exactly when count, Low or High is over its top, and no other number

@@ -1,5 +1,5 @@
 -- Paper 01, "Collector": a request, the reply to it, KTA, KTV and an item index in; the answer out, in the paper's reading order:
--- 3, 7 to 11, the error code, 12, 13.
+-- 3, 7 to 11, the error code, 12, 13. It goes by a view, the directory and the most words of the meter that was asked.
 use Prim.Native.Nat.{ℕ, _+_, _*_}
 use mathlib.Core.Bool.{Bool, _&&_, _||_, not, cond}
 use mathlib.Core.List.{List}
@@ -16,8 +16,8 @@ use Rattle.directory.specs.declared.Item.{Item}
 use Rattle.directory.specs.declared.Span.{Span}
 use Rattle.directory.specs.declared.Span.the-variants as span
 use Rattle.directory.specs.Item.{none}
-use Rattle.directory.specs.Table.{directory}
 use Rattle.directory.specs.Run.{runItems, wordsOf}
+use Rattle.directory.specs.Views.{View, own}
 use Rattle.modbus.specs.Frame.{addressOf, functionOf, isRead, wordNumber, silence}
 use Rattle.modbus.specs.Read.{readIn}
 use Rattle.reading.specs.declared.Answer.{Answer}
@@ -29,9 +29,9 @@ unfoldable pub heard : List ℕ → Bool
 heard request = not (eqb (addressOf request) 0) && (isRead request && not (silence (addressOf request) request))
 
 -- 7. request is not a read that a meter of that own address, 1 to 255, answers with data; else the items that it asks for
-abbrev pub onItems : Span → (List Item → Answer) → Answer
-onItems (span.Error code) go = Refused NotARead
-onItems (span.Items first count) go = go (runItems directory first count)
+abbrev pub onItems : View → Span → (List Item → Answer) → Answer
+onItems v (span.Error code) go = Refused NotARead
+onItems v (span.Items first count) go = go (runItems (v .seen) first count)
 
 -- 8. reply under 5 or over 256 bytes
 abbrev pub lengthWrong : List ℕ → Bool
@@ -88,11 +88,15 @@ replyOf t request reply its index =
     -- 12, 13 or the reading
     (itemOf t its reply index)))))
 
--- what the collector gives: the first that applies
-unfoldable pub collectorOf : List ℕ → List ℕ → Ratios → ℕ → Answer
-collectorOf request reply r index =
+-- what the collector gives, over a view: the first that applies
+unfoldable pub collectorIn : View → List ℕ → List ℕ → Ratios → ℕ → Answer
+collectorIn v request reply r index =
     -- 3. KTA or KTV out of limits
     cond (not (ratiosOk r)) (Refused RatioOutOfLimits)
     -- 7, then the reply
     (cond (not (heard request)) (Refused NotARead)
-    (onItems (readIn directory request) (λ its. replyOf (tOf r) request reply its index)))
+    (onItems v (readIn v request) (λ its. replyOf (tOf r) request reply its index)))
+
+-- and over paper 01's own
+abbrev pub collectorOf : List ℕ → List ℕ → Ratios → ℕ → Answer
+collectorOf request reply r index = collectorIn own request reply r index

@@ -2,13 +2,16 @@
 // and by what it was told of the ratios, and knows nothing of the meter.
 ghost use mathlib.Core.Path.{_≡_};
 ghost use Prim.Native.Nat.{_+_, _*_, _≤_};
-ghost use lib.ListN.{length, take, drop};
-ghost use Rattle.directory.specs.declared.Span.the-variants.{Items};
+ghost use lib.Dec.{T};
+ghost use lib.ListN.{length};
 ghost use Rattle.directory.specs.Item.{items};
-ghost use Rattle.directory.specs.Table.{directory};
-ghost use Rattle.directory.specs.Run.{runItems, wordsOf};
+ghost use Rattle.directory.specs.Order.{every, narrow};
+ghost use Rattle.directory.specs.Run.{wordsOf};
+ghost use Rattle.directory.specs.Views.{viewOf, Lent};
+ghost use Rattle.modbus.specs.Frame.{wordNumber};
 ghost use Rattle.modbus.specs.Read.{readIn};
-ghost use Rattle.collector.specs.Collector.{heard, onItems, errorOf, itemOf, replyOf, collectorOf};
+ghost use Rattle.collector.specs.Collector.{heard, onItems, errorOf, placeOf, itemOf, replyOf, collectorOf};
+use directory::Reach;
 use directory::Span;
 use directory::table;
 
@@ -31,9 +34,6 @@ const READ_ERROR: u8 = modbus::READ + modbus::ERROR;
 // A data reply without data, and the length of an error reply.
 const REPLY_LEAST: usize = 5;
 
-// From here on addresses count words. Before, they count bytes, and what fills one is a B.
-const WORD_BLOCKS: u16 = 0x1000;
-
 // What one item of a reply says, told the ratios of the meter asked.
 pub fn read(request: &[u8], reply: &[u8], ratios: Ratios, index: usize) -> Answer
     ensures { λ r. ⌜ r ≡ collectorOf (now (request .entry)) (now (reply .entry)) ratios index ⌝ }
@@ -44,7 +44,14 @@ pub fn read(request: &[u8], reply: &[u8], ratios: Ratios, index: usize) -> Answe
     if !heard(request) {
         return Answer::Refused(Refusal::NotARead);
     }
-    along(&table::TABLE, request, reply, ratios.tenths(), index)
+    along(
+        &table::TABLE,
+        Reach::own(),
+        request,
+        reply,
+        ratios.tenths(),
+        index,
+    )
 }
 
 // Whether the meter that a request names hears a read in it.
@@ -62,30 +69,30 @@ fn heard(request: &[u8]) -> bool
 }
 
 // The rest with the table lent: to name the constant is to lay it out anew.
-fn along(t: &[u16], request: &[u8], reply: &[u8], tenths: u32, index: usize) -> Answer
-    requires { ⌜ items (now t) ≡ directory ⌝ }
-    ensures { λ r. ⌜ r ≡ onItems (readIn directory (now (request .entry))) (λ its. replyOf tenths (now (request .entry)) (now (reply .entry)) its index) ⌝ }
-{
-    let span = modbus::read_in(t, directory::ITEMS, request);
-    let Span::Items { first, count } = span else {
-        return Answer::Refused(Refusal::NotARead);
-    };
-    replied(t, request, reply, tenths, first, count, index)
-}
-
-// What a reply says to a read of `count` items from the index `first` on.
-fn replied(
+fn along(
     t: &[u16],
+    reach: Reach,
     request: &[u8],
     reply: &[u8],
     tenths: u32,
-    first: usize,
-    count: usize,
     index: usize,
 ) -> Answer
-    requires { ⌜ items (now t) ≡ directory ⌝ }
-    requires { ⌜ readIn directory (now request) ≡ Items first count ⌝ }
-    ensures { λ r. ⌜ r ≡ replyOf tenths (now (request .entry)) (now (reply .entry)) (runItems directory first count) index ⌝ }
+    requires { ⌜ Lent (now t) reach ⌝ }
+    ensures { λ r. ⌜ r ≡ onItems (viewOf (now (t .entry)) reach) (readIn (viewOf (now (t .entry)) reach) (now (request .entry))) (λ its. replyOf tenths (now (request .entry)) (now (reply .entry)) its index) ⌝ }
+{
+    let span = modbus::read_in(t, reach, request);
+    let Span::Items { first, count } = span else {
+        return Answer::Refused(Refusal::NotARead);
+    };
+    let asked = directory::part(t, first, count);
+    replied(asked, request, reply, tenths, index)
+}
+
+// What a reply says to a read of the items that a part of the table holds.
+fn replied(asked: &[u16], request: &[u8], reply: &[u8], tenths: u32, index: usize) -> Answer
+    requires { ⌜ T (every narrow (items (now asked))) ⌝ }
+    requires { ⌜ (length (now request) ≡ 8) × (wordsOf (items (now asked)) ≡ wordNumber (now request)) ⌝ }
+    ensures { λ r. ⌜ r ≡ replyOf tenths (now (request .entry)) (now (reply .entry)) (items (now (asked .entry))) index ⌝ }
 {
     let n = reply.len();
     if (n < REPLY_LEAST) | (modbus::FRAME_MOST < n) {
@@ -107,7 +114,7 @@ fn replied(
     {
         return Answer::Refused(Refusal::ReplyMisfit);
     }
-    item(t, reply, tenths, first, count, index)
+    item(asked, reply, tenths, index)
 }
 
 fn error(reply: &[u8]) -> Answer
@@ -126,36 +133,34 @@ fn error(reply: &[u8]) -> Answer
     }
 }
 
-fn item(t: &[u16], reply: &[u8], tenths: u32, first: usize, count: usize, index: usize) -> Answer
-    requires { ⌜ items (now t) ≡ directory ⌝ }
-    requires { ⌜ first + count ≤ length directory ⌝ }
-    requires { ⌜ 3 + 2 * wordsOf (runItems directory first count) ≤ length (now reply) ⌝ }
-    ensures { λ r. ⌜ r ≡ itemOf tenths (runItems directory first count) (now (reply .entry)) index ⌝ }
+fn item(asked: &[u16], reply: &[u8], tenths: u32, index: usize) -> Answer
+    requires { ⌜ T (every narrow (items (now asked))) ⌝ }
+    requires { ⌜ 3 + 2 * wordsOf (items (now asked)) ≤ length (now reply) ⌝ }
+    ensures { λ r. ⌜ r ≡ itemOf tenths (items (now (asked .entry))) (now (reply .entry)) index ⌝ }
 {
-    if count <= index {
+    if directory::count(asked) <= index {
         return Answer::Refused(Refusal::IndexPastItems);
     }
-    let at = place(t, first, index);
-    let it = directory::item_at(t, first + index);
+    let at = place(asked, index);
+    let it = directory::item_at(asked, index);
     if it.words == 2 {
         let value = words::value_at(reply, at, 2);
         return reading::long(tenths, it.quantity, value);
     }
-    let byte = (it.start < WORD_BLOCKS) & (it.fills == 1);
     let value = words::word_at(reply, at);
-    reading::word(it.quantity, byte, value)
+    reading::word(it.quantity, it.is_b(), value)
 }
 
 // Where the words of the item stand that comes after `index` others.
-fn place(t: &[u16], first: usize, index: usize) -> usize
-    requires { ⌜ items (now t) ≡ directory ⌝ }
-    requires { ⌜ first + index ≤ length directory ⌝ }
-    ensures { λ r. ⌜ r ≡ 3 + 2 * wordsOf (take index (drop first directory)) ⌝ }
+fn place(asked: &[u16], index: usize) -> usize
+    requires { ⌜ T (every narrow (items (now asked))) ⌝ }
+    requires { ⌜ index ≤ length (items (now asked)) ⌝ }
+    ensures { λ r. ⌜ r ≡ placeOf (items (now (asked .entry))) index ⌝ }
 {
     let mut at = modbus::DATA_HEAD;
     let mut i: usize = 0;
     while i < index {
-        let it = directory::item_at(t, first + i);
+        let it = directory::item_at(asked, i);
         at += 2 * it.words as usize;
         i += 1;
     }

@@ -51,6 +51,16 @@ item-of l i h =
     let front : getD (drop i (items l)) 0 none ≡ getD (items l) i none = rw getD-drop (ap (λ (k : ℕ). getD (items l) k none) (add-zero i)) in
     sym front ∙ ap (λ (its : List Item). getD its 0 none) (items-skip l i (omega arith) ∙ ap items (drop-four l (4 * i) h))
 
+-- items laid out flat, as a constant table has them
+unfoldable pub flat : List Item → List ℕ
+flat [] = []
+flat (it ∷ its) = it .start ∷ it .fills ∷ it .words ∷ it .quantity ∷ flat its
+
+pub items-flat : (its : List Item) → items (flat its) ≡ its
+unfolding items flat
+items-flat [] = refl
+items-flat (it ∷ its) = ap (λ (rest : List Item). it ∷ rest) (items-flat its)
+
 -- four numbers make an item
 pub items-length : (l : List ℕ) → length (items l) ≡ length l / 4
 unfolding items

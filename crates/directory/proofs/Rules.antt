@@ -1,12 +1,18 @@
 -- The tests computed over the whole table, and the laws over any directory that turn them into the rule at each item.
-use mathlib.Core.Path.{_≡_, refl}
+use mathlib.Core.Path.{_≡_, refl, sym, ap, subst, _∙_}
+use mathlib.Core.List.{List}
+use native.Mathlib.Omega.{arith}
 use lib.Dec.{T}
-use lib.ListN.{length}
+use lib.ListN.{length, take}
+use lib.Seq.{take-all}
+use Rattle.directory.specs.declared.Item.{Item}
+use Rattle.directory.specs.declared.Reach.{Reach}
 use Rattle.directory.specs.Table.{directory}
 use Rattle.directory.specs.Order.{ascends, every, ruled, shaped, meant}
-use Rattle.directory.specs.Views.{passes, own}
+use Rattle.directory.specs.Views.{View, passes, own, viewOf, Lent}
 use Rattle.directory.specs.Kinds.{firstOfKind, KindsInOrder}
 use Rattle.directory.specs.Rules.{DirectoryRules, placesOf, ThreeTables}
+use Rattle.directory.proofs.Flat.{items-length, flat, items-flat}
 use Rattle.directory.proofs.Order.{every-at, apart, ruled-ascends}
 use Rattle.directory.proofs.Views.{tested-ruled, tested-shaped, tested-meant, passes-ruled}
 use Rattle.directory.proofs.Finds.{found-here, found-starts}
@@ -33,6 +39,19 @@ directory-rules = record {
   found = λ dir t i h. found-here (ruled-ascends dir (tested-ruled dir t)) _ i h refl;
   starts = found-starts;
 }
+
+-- the constant table, seen whole and asked for 120 words at the most
+module _ (reach : Reach) (whole : reach ≡ record { items = 142; most = 120 }) where
+  pub own-view : viewOf (flat directory) reach ≡ own
+  own-view =
+      ap (viewOf (flat directory)) whole
+      ∙ ap (λ (its : List Item). record { seen = its; most = 120 }) (ap (take 142) (items-flat directory) ∙ take-all 142 directory (omega (arith, directory-count)))
+
+  pub own-lent : Lent (flat directory) reach
+  own-lent = record {
+    holds = omega (arith, ap (λ (r : Reach). r .items) whole, items-length (flat directory), ap length (items-flat directory), directory-count);
+    good = subst (λ (v : View). T (passes v)) (sym own-view) own-passes;
+  }
 
 pub three-tables : ThreeTables
 unfolding placesOf directory

@@ -134,6 +134,13 @@ fn find_in(t: &[u16], n: usize, address: u16) -> Found
     Found::Nothing
 }
 
+// How many items a table holds.
+pub fn count(t: &[u16]) -> usize
+    ensures { λ r. ⌜ r ≡ length (items (now (t .entry))) ⌝ }
+{
+    t.len() / 4
+}
+
 // The part of a table that holds a run of its items.
 pub fn part(t: &[u16], first: usize, count: usize) -> &[u16]
     requires { ⌜ 4 * (first + count) ≤ length (now t) ⌝ }

@@ -1,4 +1,4 @@
--- The tests are the definition's own, in its order. A read that is answered with data has eight bytes, and its run sends the words asked.
+-- The tests are the definition's own, in its order; the items send the words that were asked for.
 use mathlib.Core.Path.{_≡_, sym, _∙_}
 use native.Mathlib.Omega.{arith}
 use mathlib.Core.List.{List}
@@ -8,10 +8,8 @@ use lib.Dec.{ltb}
 use lib.ListN.{length}
 use borrow.Author.Tests.{not-true, not-false, eq-eqb, ne-eqb, ltb-false}
 use Rattle.crc.specs.Crc.{intact}
-use Rattle.directory.specs.Table.{directory}
-use Rattle.directory.specs.Run.{runItems}
+use Rattle.directory.specs.Item.{items}
 use Rattle.modbus.proofs.Frames.{neither}
-use Rattle.modbus.proofs.Judged.{LegalRead, legal-read}
 use Rattle.collector.specs.Collector.{lengthWrong}
 use Rattle.collector.proofs.Judged.{length-refused, crc-refused, foreign-refused, error-given, misfit-refused, item-given, misfit-read, fitting}
 use borrow.Author.Needs.{needs}
@@ -21,9 +19,6 @@ use Rattle.collector.proofs.replied.Tie as tie
 -- the bytes that are looked at are there
 long : (reply : List ℕ) → (ltb (length reply) 5 || ltb 256 (length reply)) ≡ false → 5 ≤ length reply
 long reply h = ltb-false (length reply) 5 (neither (ltb (length reply) 5) (ltb 256 (length reply)) h .0)
-
-asked : (s : tie.Start) → LegalRead (s .args .request .now) (s .args .first) (s .args .count)
-asked s = legal-read (s .pre .1)
 
 -- where 8 and 9 are passed
 abbrev start : tie.Else2 → tie.Start
@@ -42,7 +37,7 @@ sound e = e .before .before .before .before .before
 returns : tie.Need-returns
 returns c =
     let a = c .before .before .before .before .args in
-    length-refused (a .tenths) (a .request .now) (a .reply .now) (runItems directory (a .first) (a .count)) (a .index)
+    length-refused (a .tenths) (a .request .now) (a .reply .now) (items (a .asked .now)) (a .index)
     (c .if1 .taken)
 
 intact-requires : tie.Need-intact-requires
@@ -51,7 +46,7 @@ intact-requires c κs = search needs
 returns-2 : tie.Need-returns-2
 returns-2 c =
     let a = c .before .before .before .before .before .before .args in
-    crc-refused (a .tenths) (a .request .now) (a .reply .now) (runItems directory (a .first) (a .count)) (a .index)
+    crc-refused (a .tenths) (a .request .now) (a .reply .now) (items (a .asked .now)) (a .index)
     (c .before .before .if1 .left) (sym (c .before .intact .ensures) ∙ not-true _ (c .if2 .taken))
 
 shared-slice-read-function : tie.Need-shared-slice-read-function
@@ -61,13 +56,13 @@ shared-slice-read-if3 : tie.Need-shared-slice-read-if3
 shared-slice-read-if3 c = omega (arith, long (c .before .before .before .before .before .before .before .before .args .reply .now) (c .before .before .before .before .if1 .left))
 
 shared-slice-read-if3-2 : tie.Need-shared-slice-read-if3-2
-shared-slice-read-if3-2 c = omega (arith, asked (c .before .before .before .before .before .before .before .before .before) .long)
+shared-slice-read-if3-2 c = omega (arith, c .before .before .before .before .before .before .before .before .before .pre .1 .0)
 
 returns-3 : tie.Need-returns-3
 returns-3 c =
     let e = c .before .before .before .before in
     let a = start e .args in
-    foreign-refused (a .tenths) (a .request .now) (a .reply .now) (runItems directory (a .first) (a .count)) (a .index) (right-length e) (whole e) (c .if3 .taken)
+    foreign-refused (a .tenths) (a .request .now) (a .reply .now) (items (a .asked .now)) (a .index) (right-length e) (whole e) (c .if3 .taken)
 
 error-requires : tie.Need-error-requires
 error-requires c κs = long (c .before .before .before .before .before .before .before .before .before .before .before .args .reply .now) (c .before .before .before .before .before .before .before .if1 .left)
@@ -77,7 +72,7 @@ returns-4 c =
     let e = c .before .before .before .before .before .before in
     let a = start e .args in
     c .error .ensures
-    ∙ error-given (a .tenths) (a .request .now) (a .reply .now) (runItems directory (a .first) (a .count)) (a .index)
+    ∙ error-given (a .tenths) (a .request .now) (a .reply .now) (items (a .asked .now)) (a .index)
     (right-length e) (whole e) (c .before .before .if3 .left) (eq-eqb _ _ (c .before .if4 .taken))
 
 shared-slice-read-bytes : tie.Need-shared-slice-read-bytes
@@ -87,7 +82,7 @@ cast-bytes : tie.Need-cast-bytes
 cast-bytes c = omega (arith, c .shared-slice-known7 .given 2)
 
 word-at-requires : tie.Need-word-at-requires
-word-at-requires c κs = omega (arith, asked (c .before .before .before .before .before .before .before .before .before .before .before .before) .long)
+word-at-requires c κs = omega (arith, c .before .before .before .before .before .before .before .before .before .before .before .before .pre .1 .0)
 
 cast-if5 : tie.Need-cast-if5
 cast-if5 c = search needs
@@ -103,7 +98,7 @@ returns-5 c =
     let n = c .before .before .before in
     let e = sound n in
     let a = start e .args in
-    misfit-refused (a .tenths) (a .request .now) (a .reply .now) (runItems directory (a .first) (a .count)) (a .index)
+    misfit-refused (a .tenths) (a .request .now) (a .reply .now) (items (a .asked .now)) (a .index)
     (right-length e) (whole e) (n .before .if3 .left) (ne-eqb _ _ (n .if4 .left))
     (misfit-read (a .request .now) (a .reply .now) _ true (c .before .word-at .ensures) (c .if5 .taken))
 
@@ -111,9 +106,8 @@ item-requires : tie.Need-item-requires
 item-requires c κs =
     let s = c .before .before .before .before .before .before .before .before .before .before .before .before .before .before in
     let a = s .args in
-    let q = asked s in
     let fits = fitting (a .request .now) (a .reply .now) (misfit-read (a .request .now) (a .reply .now) _ false (c .before .word-at .ensures) (c .if5 .left)) in
-    (s .pre .0, (q .inside, omega (arith, fits, q .sends)))
+    (s .pre .0, omega (arith, fits, s .pre .1 .1))
 
 returns-6 : tie.Need-returns-6
 returns-6 c =
@@ -121,7 +115,7 @@ returns-6 c =
     let e = sound n in
     let a = start e .args in
     c .item .ensures
-    ∙ item-given (a .tenths) (a .request .now) (a .reply .now) (runItems directory (a .first) (a .count)) (a .index)
+    ∙ item-given (a .tenths) (a .request .now) (a .reply .now) (items (a .asked .now)) (a .index)
     (right-length e) (whole e) (n .before .if3 .left) (ne-eqb _ _ (n .if4 .left))
     (misfit-read (a .request .now) (a .reply .now) _ false (c .before .before .word-at .ensures) (c .before .if5 .left))
 
