@@ -1,11 +1,12 @@
 -- Paper 01, the program `bench`: one frame a line as hex pairs, either case, parted by single spaces; the reply so in
 -- capitals.
 use mathlib.Core.Path.{_≡_}
-use Prim.Native.Nat.{ℕ, _+_, _-_, _*_, _/_, _%_, _<_, min}
+use Prim.Native.Nat.{ℕ, _+_, _*_, _<_, min}
 use mathlib.Core.Bool.{Bool, true, false, _&&_, cond}
 use mathlib.Core.List.{List, [], _∷_, _++_}
-use lib.Dec.{leb, ltb, eqb}
+use lib.Dec.{leb, eqb}
 use lib.ListN.{length, getD, take, drop}
+use Rattle.hex.specs.Hex.{pairOk, byteOf, pairOf}
 use Rattle.lines.specs.declared.Line.{Line}
 use Rattle.lines.specs.declared.Line.the-variants.{Frame, Bad}
 
@@ -13,22 +14,6 @@ use Rattle.lines.specs.declared.Line.the-variants.{Frame, Bad}
 unfoldable pub lineLength : List ℕ → ℕ
 lineLength [] = 0
 lineLength (c ∷ cs) = cond (eqb c 0x0A) 0 (1 + lineLength cs)
-
--- the value of a hex digit, either case; 16 where it is none
-abbrev pub digitOf : ℕ → ℕ
-digitOf c =
-    cond (leb 0x30 c && leb c 0x39) (c - 0x30)
-    (cond (leb 0x41 c && leb c 0x46) (c - 0x37)
-    (cond (leb 0x61 c && leb c 0x66) (c - 0x57)
-    16))
-
--- two hex digits
-abbrev pub pairOk : ℕ → ℕ → Bool
-pairOk upper lower = ltb (digitOf upper) 16 && ltb (digitOf lower) 16
-
--- their byte
-abbrev pub byteOf : ℕ → ℕ → ℕ
-byteOf upper lower = 16 * digitOf upper + digitOf lower
 
 -- hex pairs, parted by single spaces
 unfoldable pub pairsOk : List ℕ → Bool
@@ -66,15 +51,11 @@ pub record FrameRead (line before : List ℕ) (answer : Line) (after : List ℕ)
   pub told : answer ≡ lineOf line (length before)
   pub bytes : after ≡ frameOver line before
 
--- a hex digit, in capitals
-abbrev pub capital : ℕ → ℕ
-capital d = cond (ltb d 10) (0x30 + d) (0x37 + d)
-
 -- bytes as hex pairs in capitals, parted by single spaces
 unfoldable pub textOf : List ℕ → List ℕ
 textOf [] = []
-textOf (b ∷ []) = capital (b / 16) ∷ capital (b % 16) ∷ []
-textOf (b ∷ c ∷ bs) = capital (b / 16) ∷ capital (b % 16) ∷ 0x20 ∷ textOf (c ∷ bs)
+textOf (b ∷ []) = pairOf b
+textOf (b ∷ c ∷ bs) = pairOf b ++ (0x20 ∷ textOf (c ∷ bs))
 
 -- there is room for three characters a byte
 abbrev pub textFits : List ℕ → ℕ → Bool

@@ -8,7 +8,8 @@ use native.Mathlib.Numerals.{add-one}
 use native.Mathlib.Omega.{arith}
 use lib.ListN.{length, getD, set, take, drop, length-take, length-drop, length-set}
 use lib.Seq.{sets}
-use Rattle.lines.specs.Lines.{byteOf, bytesOf, lineOk, over}
+use Rattle.hex.specs.Hex.{byteOf}
+use Rattle.lines.specs.Lines.{bytesOf, lineOk, over}
 use Rattle.words.proofs.Laws.{sets-front}
 use Rattle.lines.proofs.Laws.{nothing, bytes-length, turn-ok, turn-bytes}
 use Rattle.lines.proofs.put_bytes.Statement.{statement}
