@@ -15,7 +15,6 @@ use Rattle.refusal.specs.Numbers.{errorNumber}
 use Rattle.refusal.proofs.Distinct.{one-reason-each}
 use Rattle.crc.specs.Crc.{crcOf, onLine, sealed, intact}
 use Rattle.crc.proofs.Laws.{length-sealed, intact-is-sealed}
-use Rattle.words.proofs.Laws.{sets-front}
 use Rattle.directory.specs.declared.Span.the-variants.{Error}
 use Rattle.directory.specs.Table.{directory}
 use Rattle.directory.specs.Run.{runItems}
@@ -24,6 +23,7 @@ use Rattle.modbus.specs.Frame.{addressOf, functionOf, wordNumber, isRead, isWri
 use Rattle.modbus.specs.Replies.{errorReply, echoReply, dataReply}
 use Rattle.modbus.proofs.Frames.{shaped-length}
 use Rattle.modbus.proofs.Judged.{legal-read}
+use Rattle.modbus.proofs.Stores.{sets-front}
 use Rattle.meter.specs.declared.Meter.{Meter}
 use Rattle.board.specs.declared.Reply.the-variants.{Sent}
 use Rattle.board.specs.Reads.{itemsSent, readBytes}

@@ -5,7 +5,8 @@ use Prim.Native.Nat.{ℕ, _+_, _*_, _<_, min}
 use mathlib.Core.Bool.{Bool, true, false, _&&_, cond}
 use mathlib.Core.List.{List, [], _∷_, _++_}
 use lib.Dec.{leb, eqb}
-use lib.ListN.{length, getD, take, drop}
+use lib.ListN.{length, getD, take}
+use lib.Seq.{sets}
 use Rattle.hex.specs.Hex.{pairOk, byteOf, pairOf}
 use Rattle.lines.specs.declared.Line.{Line}
 use Rattle.lines.specs.declared.Line.the-variants.{Frame, Bad}
@@ -34,17 +35,13 @@ abbrev pub lineOk : List ℕ → Bool
 lineOk [] = true
 lineOk (c ∷ cs) = pairsOk (c ∷ cs)
 
--- bytes at the start of a buffer, the rest of it as it was
-abbrev pub over : List ℕ → List ℕ → List ℕ
-over bytes buffer = bytes ++ drop (length bytes) buffer
-
 -- a line in, its frame out: as much of it as there is room for
 abbrev pub lineOf : List ℕ → ℕ → Line
 lineOf line room = cond (lineOk line) (Frame (min (length (bytesOf line)) room)) Bad
 
--- the buffer then
+-- the buffer then: its bytes stand at the start, and the rest is as it was
 abbrev pub frameOver : List ℕ → List ℕ → List ℕ
-frameOver line buffer = cond (lineOk line) (over (take (length buffer) (bytesOf line)) buffer) buffer
+frameOver line buffer = cond (lineOk line) (sets buffer 0 (take (length buffer) (bytesOf line))) buffer
 
 -- all that the contract of `frame` allows: its answer, and every byte of the buffer
 pub record FrameRead (line before : List ℕ) (answer : Line) (after : List ℕ) : Type 0 where
@@ -65,9 +62,9 @@ textFits bytes room = leb (3 * length bytes) room
 abbrev pub textLength : List ℕ → ℕ → ℕ
 textLength bytes room = cond (textFits bytes room) (length (textOf bytes)) 0
 
--- the buffer then
+-- the buffer then: the text stands at the start, and the rest is as it was
 abbrev pub textOver : List ℕ → List ℕ → List ℕ
-textOver bytes buffer = cond (textFits bytes (length buffer)) (over (textOf bytes) buffer) buffer
+textOver bytes buffer = cond (textFits bytes (length buffer)) (sets buffer 0 (textOf bytes)) buffer
 
 -- all that the contract of `text` allows: its answer, and every byte of the buffer
 pub record TextPut (frame before : List ℕ) (answer : ℕ) (after : List ℕ) : Type 0 where

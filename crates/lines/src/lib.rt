@@ -3,7 +3,8 @@ ghost use mathlib.Core.Path.{_≡_};
 ghost use Prim.Native.Nat.{_+_, _*_, _≤_, min};
 ghost use mathlib.Core.Bool.{true};
 ghost use lib.ListN.{length, take, drop};
-ghost use Rattle.lines.specs.Lines.{lineLength, bytesOf, lineOk, over, FrameRead, textOf, TextPut};
+ghost use lib.Seq.{sets};
+ghost use Rattle.lines.specs.Lines.{lineLength, bytesOf, lineOk, FrameRead, textOf, TextPut};
 
 pub const LINE_FEED: u8 = 0x0A;
 
@@ -66,7 +67,7 @@ fn line_ok(line: &[u8]) -> bool
 fn put_bytes(line: &[u8], buffer: &mut [u8]) -> usize
     requires { ⌜ lineOk (now line) ≡ true ⌝ }
     ensures { λ r. ⌜ r ≡ min (length (bytesOf (now (line .entry)))) (length (now (buffer .entry))) ⌝ }
-    ensures { λ _. ⌜ now (buffer .exit) ≡ over (take (length (now (buffer .entry))) (bytesOf (now (line .entry)))) (now (buffer .entry)) ⌝ }
+    ensures { λ _. ⌜ now (buffer .exit) ≡ sets (now (buffer .entry)) 0 (take (length (now (buffer .entry))) (bytesOf (now (line .entry)))) ⌝ }
 {
     let n = least((line.len() + 1) / 3, buffer.len());
     let mut i = 0;
@@ -102,7 +103,7 @@ pub fn text(bytes: &[u8], buffer: &mut [u8]) -> usize
 // The last byte is put by itself, for no space stands behind it.
 fn put_text(bytes: &[u8], buffer: &mut [u8])
     requires { ⌜ (1 ≤ length (now bytes)) × (3 * length (now bytes) ≤ length (now buffer)) ⌝ }
-    ensures { λ _. ⌜ now (buffer .exit) ≡ over (textOf (now (bytes .entry))) (now (buffer .entry)) ⌝ }
+    ensures { λ _. ⌜ now (buffer .exit) ≡ sets (now (buffer .entry)) 0 (textOf (now (bytes .entry))) ⌝ }
 {
     let last = bytes.len() - 1;
     let mut i = 0;

@@ -7,10 +7,8 @@ use lib.ListN.{length, getD, set, drop, length-set, drop-of-length-le}
 use lib.Seq.{sets, drop-cons}
 use borrow.Author.Needs.{needs}
 use Rattle.hex.specs.Hex.{pairOf}
-use Rattle.lines.specs.Lines.{textOf, over}
-use Rattle.words.proofs.Laws.{sets-front}
+use Rattle.lines.specs.Lines.{textOf}
 use Rattle.lines.proofs.Laws.{two}
-use Rattle.lines.proofs.Texts.{text-length}
 use Rattle.lines.proofs.put_text.Statement.{statement}
 use Rattle.lines.proofs.put_text.Tie as tie
 
@@ -18,7 +16,7 @@ abbrev Inv-loop : tie.InvT-loop
 Inv-loop bytes buffer₀ last i₀ buffer i =
     (i ≤ last) ×
     (length buffer ≡ length buffer₀) ×
-    (sets buffer (3 * i) (textOf (drop i bytes)) ≡ over (textOf bytes) buffer₀)
+    (sets buffer (3 * i) (textOf (drop i bytes)) ≡ sets buffer₀ 0 (textOf bytes))
 
 abbrev μ-loop : tie.MeasureT-loop
 μ-loop bytes buffer₀ last i₀ buffer i = last - i
@@ -39,9 +37,7 @@ sub-last : tie.Need-sub-last Inv-loop μ-loop
 sub-last c = omega arith
 
 loop-holds : tie.Need-loop-holds Inv-loop μ-loop
-loop-holds c =
-    let s = c .before .before in
-    (omega arith, refl, sets-front (s .args .buffer .now) (textOf (s .args .bytes .now)) (omega (arith, text-length (s .args .bytes .now))))
+loop-holds c = (omega arith, refl, refl)
 
 mul-put-digits : tie.Need-mul-put-digits Inv-loop μ-loop
 mul-put-digits c = omega arith
