@@ -6,7 +6,6 @@ ghost use lib.ListN.{length};
 ghost use Rattle.board.specs.declared.Reply.the-variants.{Sent};
 use board::Reply;
 use libc::STDIN_FILENO;
-use libc::STDOUT_FILENO;
 use lines::Line;
 use meter::Meter;
 use ratio::Ratios;
@@ -44,7 +43,7 @@ fn run(input: &[u8])
 fn answer(meter: Meter, line: &[u8]) -> Meter {
     let mut frame = [0u8; FRAME_ROOM];
     let Line::Frame(n) = lines::frame(line, &mut frame) else {
-        say(b"bad line\n");
+        say::text(b"bad line\n");
         return meter;
     };
     let mut reply = [0u8; REPLY_ROOM];
@@ -61,12 +60,11 @@ fn tell(did: Reply, reply: &[u8])
     requires { ⌜ ((n : ℕ) → did ≡ Sent n → n ≤ length (now reply)) ⌝ }
 {
     match did {
-        Reply::Silent => say(b"silent\n"),
+        Reply::Silent => say::text(b"silent\n"),
         Reply::Sent(n) => send(&reply[..n]),
         Reply::Refused(reason) => {
-            say(b"refused ");
-            io::print_decimal(STDOUT_FILENO, reason.number() as u64);
-            say(b"\n");
+            say::refused(reason);
+            say::end();
         }
     }
 }
@@ -78,9 +76,5 @@ fn send(reply: &[u8])
     let mut text = [0u8; TEXT_ROOM];
     let n = lines::text(reply, &mut text);
     text[n] = lines::LINE_FEED;
-    say(&text[..n + 1]);
-}
-
-fn say(text: &[u8]) {
-    io::write_all(STDOUT_FILENO, text);
+    say::text(&text[..n + 1]);
 }

@@ -9,16 +9,16 @@ use lib.Seq.{sets}
 use borrow.Author.Tests.{eq-eqb, ne-eqb, eqb-true}
 use Rattle.refusal.specs.declared.Refusal.the-variants.{MeterOutOfLimits, BufferShort}
 use Rattle.refusal.specs.declared.ErrorCode.the-variants.{Function}
-use Rattle.modbus.specs.declared.Verdict.{Verdict}
 use Rattle.modbus.specs.Frame.{addressOf, functionOf, silence, isRead, isWrite}
 use Rattle.modbus.specs.Replies.{errorReply}
 use Rattle.meter.specs.declared.Meter.{Meter}
 use Rattle.meter.specs.Meters.{meterOk}
 use Rattle.board.specs.declared.Reply.the-variants.{Sent}
+use Rattle.store.specs.declared.Verdict.{Verdict}
 use Rattle.store.specs.declared.Written.{Written}
 use Rattle.board.specs.Reads.{readReply}
-use Rattle.store.specs.Writes.{writtenOf, writeReply}
-use Rattle.board.specs.Board.{Outcome, Allowed, refusedOf, silentOf, replyOf, obeyedOf, boardOf}
+use Rattle.store.specs.Writes.{writtenOf}
+use Rattle.board.specs.Board.{Outcome, Allowed, refusedOf, silentOf, replyOf, writeReply, obeyedOf, boardOf}
 
 -- what is defined is allowed
 pub allowed : {x y : Outcome} → x ≡ y → Allowed y (x .handled) (x .buffer)

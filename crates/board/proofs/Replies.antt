@@ -15,22 +15,22 @@ use Rattle.refusal.specs.Numbers.{errorNumber}
 use Rattle.refusal.proofs.Distinct.{one-reason-each}
 use Rattle.crc.specs.Crc.{crcOf, onLine, sealed, intact}
 use Rattle.crc.proofs.Laws.{length-sealed, intact-is-sealed}
-use Rattle.words.proofs.Laws.{sets-front}
 use Rattle.directory.specs.declared.Span.the-variants.{Error}
 use Rattle.directory.specs.Table.{directory}
 use Rattle.directory.specs.Run.{runItems}
-use Rattle.modbus.specs.declared.Verdict.the-variants.{Wrong}
 use Rattle.modbus.specs.Frame.{addressOf, functionOf, wordNumber, isRead, isWrite}
-use Rattle.modbus.specs.Replies.{errorReply, echoReply, dataReply}
+use Rattle.modbus.specs.Replies.{errorReply, echoReply}
 use Rattle.modbus.proofs.Frames.{shaped-length}
 use Rattle.modbus.proofs.Judged.{legal-read}
+use Rattle.modbus.proofs.Stores.{sets-front}
 use Rattle.meter.specs.declared.Meter.{Meter}
 use Rattle.board.specs.declared.Reply.the-variants.{Sent}
-use Rattle.board.specs.Reads.{itemsSent, readBytes}
+use Rattle.board.specs.Reads.{itemsSent, dataReply, readBytes}
 use Rattle.board.specs.Board.{Outcome, silentOf, sentOf, replyOf, obeyedOf, boardOf}
 use Rattle.board.specs.Answers.{Heeds, Answers, ReadErrs, WriteErrs}
 use Rattle.board.proofs.Sent.{length-items}
 use Rattle.board.proofs.Cases.{board-obeys, obeys-other, obeys-read, obeys-write}
+use Rattle.store.specs.declared.Verdict.the-variants.{Wrong}
 use Rattle.store.proofs.Verdicts.{write-when}
 use Rattle.board.proofs.Views.{Gives, other, misread, shows, miswritten, stores}
 

@@ -13,16 +13,16 @@ use Rattle.directory.specs.declared.Span.{Span}
 use Rattle.directory.specs.declared.Span.the-variants.{Items, Error}
 use Rattle.directory.specs.Table.{directory}
 use Rattle.directory.specs.Run.{runItems}
-use Rattle.modbus.specs.declared.Verdict.{Verdict}
-use Rattle.modbus.specs.declared.Verdict.the-variants.{Good, Wrong}
 use Rattle.modbus.specs.Frame.{addressOf, silence, isRead, isWrite}
 use Rattle.modbus.specs.Read.{readIn}
-use Rattle.modbus.specs.Replies.{errorReply, echoReply, dataReply}
+use Rattle.modbus.specs.Replies.{errorReply, echoReply}
 use Rattle.meter.specs.declared.Meter.{Meter}
 use Rattle.meter.specs.Meters.{meterOk}
-use Rattle.board.specs.Reads.{itemsSent, readBytes, readReply}
-use Rattle.store.specs.Writes.{storedOf, writtenOf, writeReply}
-use Rattle.board.specs.Board.{refusedOf, silentOf, sentOf, replyOf, obeyedOf, boardOf}
+use Rattle.board.specs.Reads.{itemsSent, dataReply, readBytes, readReply}
+use Rattle.store.specs.declared.Verdict.{Verdict}
+use Rattle.store.specs.declared.Verdict.the-variants.{Good, Wrong}
+use Rattle.store.specs.Writes.{storedOf, writtenOf}
+use Rattle.board.specs.Board.{refusedOf, silentOf, sentOf, replyOf, writeReply, obeyedOf, boardOf}
 use Rattle.board.specs.Answers.{Heeds, Answers}
 use Rattle.board.proofs.Cases.{board-1, board-2, board-silent, board-obeys, obeys-other, obeys-read, obeys-write}
 use Rattle.store.proofs.Verdicts.{write-when}

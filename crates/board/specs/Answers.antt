@@ -14,15 +14,15 @@ use Rattle.crc.specs.Crc.{intact}
 use Rattle.directory.specs.declared.Span.the-variants.{Items, Error}
 use Rattle.directory.specs.Table.{directory}
 use Rattle.directory.specs.Run.{runItems}
-use Rattle.modbus.specs.declared.Verdict.the-variants.{Good, Wrong}
 use Rattle.modbus.specs.Frame.{addressOf, silence, isRead, isWrite}
 use Rattle.modbus.specs.Read.{readIn}
-use Rattle.modbus.specs.Replies.{errorBytes, echoReply, dataReply}
+use Rattle.modbus.specs.Replies.{errorBytes, echoReply}
 use Rattle.meter.specs.declared.Meter.{Meter}
 use Rattle.meter.specs.Meters.{meterOk}
 use Rattle.board.specs.declared.Reply.{Reply}
 use Rattle.board.specs.declared.Reply.the-variants.{Silent, Sent, Refused}
-use Rattle.board.specs.Reads.{itemsSent}
+use Rattle.board.specs.Reads.{itemsSent, dataReply}
+use Rattle.store.specs.declared.Verdict.the-variants.{Good, Wrong}
 use Rattle.store.specs.Writes.{storedOf, writtenOf}
 use Rattle.board.specs.Board.{silentOf, sentOf, boardOf}
 

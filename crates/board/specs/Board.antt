@@ -10,13 +10,15 @@ use Rattle.refusal.specs.declared.Refusal.{Refusal}
 use Rattle.refusal.specs.declared.Refusal.the-variants.{MeterOutOfLimits, BufferShort}
 use Rattle.refusal.specs.declared.ErrorCode.the-variants.{Function}
 use Rattle.modbus.specs.Frame.{addressOf, silence, isRead, isWrite}
-use Rattle.modbus.specs.Replies.{errorReply}
+use Rattle.modbus.specs.Replies.{errorReply, echoReply}
 use Rattle.meter.specs.declared.Meter.{Meter}
 use Rattle.meter.specs.Meters.{meterOk}
 use Rattle.board.specs.declared.Reply.the-variants.{Silent, Sent, Refused}
 use Rattle.board.specs.declared.Handled.{Handled}
 use Rattle.board.specs.Reads.{readReply}
-use Rattle.store.specs.Writes.{writtenOf, writeReply}
+use Rattle.store.specs.declared.Verdict.{Verdict}
+use Rattle.store.specs.declared.Verdict.the-variants.{Good, Wrong}
+use Rattle.store.specs.Writes.{writtenOf}
 
 -- what a frame leads to: the answer with the meter's record, and the reply buffer
 pub record Outcome : Type 0 where
@@ -43,6 +45,11 @@ sentOf bytes m buffer = record { handled = record { reply = Sent (length bytes);
 -- address 0: silence is kept always
 abbrev pub replyOf : List ℕ → List ℕ → Meter → List ℕ → Outcome
 replyOf frame bytes m buffer = cond (eqb (addressOf frame) 0) (silentOf m buffer) (sentOf bytes m buffer)
+
+-- 5. as the write is judged: its error, or address, function, start and word number are echoed
+abbrev pub writeReply : List ℕ → Verdict → List ℕ
+writeReply frame (Wrong code) = errorReply frame code
+writeReply frame Good = echoReply frame
 
 -- what is done with a frame that the meter heeds: steps 3 to 5
 abbrev pub obeyedOf : Meter → List ℕ → List ℕ → Outcome

@@ -9,9 +9,9 @@ ghost use Rattle.modbus.specs.Frame.{silence, isWrite};
 ghost use Rattle.meter.specs.Meters.{meterOk};
 ghost use Rattle.board.specs.Board.{Allowed, obeyedOf, boardOf};
 use meter::Meter;
-use modbus::Verdict;
 use refusal::ErrorCode;
 use refusal::Refusal;
+use store::Verdict;
 
 pub enum Reply {
     Silent,

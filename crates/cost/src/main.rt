@@ -6,21 +6,21 @@ mod once;
 mod readings;
 
 use libc::STDIN_FILENO;
-use libc::STDOUT_FILENO;
 
 fn main() {
     let mut buf = [0u8; 256];
     let n = io::read_full(STDIN_FILENO, &mut buf);
-    io::print_hex(STDOUT_FILENO, frames::answered(&buf[..n]) as u64, 2);
-    io::write_all(STDOUT_FILENO, b"\n");
-    io::print_hex(STDOUT_FILENO, readings::collected(&buf[..n]), 2);
-    io::write_all(STDOUT_FILENO, b"\n");
-    io::print_hex(STDOUT_FILENO, bytes::sealed(&mut buf, n) as u64, 2);
-    io::write_all(STDOUT_FILENO, b"\n");
-    io::print_hex(STDOUT_FILENO, bytes::hosted(&mut buf, n) as u64, 2);
-    io::write_all(STDOUT_FILENO, b"\n");
-    io::print_decimal(STDOUT_FILENO, figures::counted());
-    io::write_all(STDOUT_FILENO, b"\n");
-    io::print_hex(STDOUT_FILENO, once::each(), 2);
-    io::write_all(STDOUT_FILENO, b"\n");
+    hex(frames::answered(&buf[..n]) as u64);
+    hex(readings::collected(&buf[..n]));
+    hex(bytes::sealed(&mut buf, n) as u64);
+    hex(bytes::hosted(&mut buf, n) as u64);
+    say::number(figures::counted());
+    say::end();
+    hex(once::each());
+}
+
+// A line with a number in hexadecimal.
+fn hex(n: u64) {
+    say::hex(n, 2);
+    say::end();
 }

@@ -25,7 +25,7 @@ use Rattle.directory.specs.Run.{runItems}
 use Rattle.directory.proofs.Order.{every-at, ruled-narrow}
 use Rattle.directory.proofs.Rules.{directory-ruled}
 use Rattle.modbus.specs.Frame.{addressOf, functionOf, wordNumber, isRead, isWrite, silence}
-use Rattle.modbus.specs.Replies.{dataReply, errorBytes, errorReply, echoReply}
+use Rattle.modbus.specs.Replies.{errorBytes, errorReply, echoReply}
 use Rattle.modbus.proofs.Frames.{shaped-length}
 use Rattle.modbus.proofs.Judged.{legal-read}
 use Rattle.meter.specs.declared.Meter.{Meter}
@@ -37,7 +37,7 @@ use Rattle.registers.proofs.Widths.{Shows, in-room, typed-shows}
 use Rattle.reading.specs.declared.Answer.the-variants.{Reading}
 use Rattle.reading.specs.Cases.{told}
 use Rattle.reading.specs.Readings.{readingOf}
-use Rattle.board.specs.Reads.{itemsSent}
+use Rattle.board.specs.Reads.{itemsSent, dataReply}
 use Rattle.board.specs.Board.{Outcome}
 use Rattle.board.specs.Answers.{Answers}
 use Rattle.board.proofs.Sent.{length-items}

@@ -12,9 +12,10 @@ use borrow.Author.Tests.{eqb-true, le-leb, lt-leb, lt-ltb}
 use lib.IntN.{ℤ, pos, negsuc, natAbs}
 use Rattle.signed.specs.Signs.{negative, signedOf}
 use Rattle.signed.specs.declared.Signed.{Signed}
+use Rattle.signed.proofs.Signs.{sign-most}
 use Rattle.words.specs.Signed.{twos}
 use Rattle.words.proofs.Signs.{signed-back}
-use Rattle.ratio.proofs.Powers.{powers-fit, sign-most}
+use Rattle.ratio.proofs.Powers.{powers-fit}
 use Rattle.counts.proofs.Joins.{counts-fit}
 use Rattle.directory.specs.declared.Item.{Item}
 use Rattle.directory.specs.Item.{none, inBytes}

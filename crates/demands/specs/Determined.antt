@@ -11,10 +11,10 @@ use Rattle.lines.specs.declared.Line.{Line}
 use Rattle.lines.specs.Lines.{FrameRead, TextPut}
 use Rattle.counts.specs.declared.Joined.{Joined}
 use Rattle.counts.specs.Energies.{joinTold}
-use Rattle.modbus.specs.declared.Verdict.{Verdict}
 use Rattle.meter.specs.declared.Answer.{Answer}
 use Rattle.meter.specs.declared.Meter.{Meter}
 use Rattle.meter.specs.Answers.{answerTold}
+use Rattle.store.specs.declared.Verdict.{Verdict}
 use Rattle.store.specs.Writes.{verdictTold}
 use Rattle.board.specs.declared.Reply.{Reply}
 use Rattle.board.specs.declared.Handled.{Handled}

@@ -6,7 +6,8 @@ use mathlib.Core.List.{List, [], _∷_, _++_, map}
 use lib.Dec.{ltb}
 use lib.ListN.{getD}
 use Rattle.signed.specs.declared.Signed.{Signed}
-use Rattle.ratio.specs.Powers.{powerUnit, powerRegister, signWord}
+use Rattle.signed.specs.Signs.{signWord}
+use Rattle.ratio.specs.Powers.{powerUnit, powerRegister}
 use Rattle.ratio.specs.Steps.{stepOf}
 use Rattle.counts.specs.Energies.{registerOf, wrapOf, lowOf, highOf, energyOf}
 use Rattle.meter.specs.declared.energies.Energy.{Energy}

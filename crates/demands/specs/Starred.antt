@@ -4,15 +4,16 @@ use Prim.Native.Nat.{ℕ}
 use mathlib.Core.List.{List, [], _∷_, _++_, map}
 use lib.IntN.{negsuc}
 use Rattle.signed.specs.declared.Signed.{Signed}
-use Rattle.signed.specs.Signs.{signedOf}
+use Rattle.signed.specs.Signs.{signedOf, signWord}
 use Rattle.crc.specs.Crc.{crcOf, onLine, sealed}
 use Rattle.words.specs.Words.{sent}
 use Rattle.ratio.specs.declared.Ratios.{Ratios}
 use Rattle.counts.specs.declared.WattHours.{WattHours}
 use Rattle.ratio.specs.Ratios.{tOf}
-use Rattle.ratio.specs.Powers.{powerUnit, signWord, signedPower, factorHundredths, factorThousandths}
+use Rattle.ratio.specs.Powers.{powerUnit}
 use Rattle.ratio.specs.Steps.{stepOf}
 use Rattle.counts.specs.Energies.{registerOf, wrapOf, lowOf, highOf}
+use Rattle.registers.specs.SignedWords.{signedPower, factorHundredths, factorThousandths}
 use Rattle.reading.specs.Cases.{told}
 use Rattle.collector.specs.Collector.{collectorOf}
 

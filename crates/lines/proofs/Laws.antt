@@ -4,11 +4,12 @@ use mathlib.Core.Bool.{true, _&&_, and-eq-true-iff}
 use mathlib.Core.List.{List, [], _∷_}
 use Prim.Native.Nat.{ℕ, suc, _+_, _*_, _/_, _≤_, _<_}
 use native.Mathlib.Omega.{arith}
-use lib.Dec.{ltb, eqb}
+use lib.Dec.{eqb}
 use lib.ListN.{length, getD, drop, drop-of-length-le}
 use lib.Seq.{drop-cons, drop-drop}
-use borrow.Author.Tests.{ltb-true}
-use Rattle.lines.specs.Lines.{digitOf, pairOk, byteOf, pairsOk, bytesOf, lineOk}
+use Rattle.hex.specs.Hex.{digitOf, pairOk, byteOf}
+use Rattle.hex.proofs.Pairs.{digits}
+use Rattle.lines.specs.Lines.{pairsOk, bytesOf, lineOk}
 
 pub nothing : (l : List ℕ) → length l ≡ 0 → l ≡ []
 nothing l h = drop-of-length-le l {i = 0} (omega arith)
@@ -19,12 +20,6 @@ two l i h =
     let first : suc i ≡ i + 1 = omega arith in
     let second : suc (i + 1) ≡ i + 2 = omega arith in
     rw (drop-cons l i 0 (omega arith), first, drop-cons l (i + 1) 0 (omega arith), second)
-
--- what the two tests of a pair say together
-pub digits : (upper lower : ℕ) → pairOk upper lower ≡ true → (digitOf upper < 16) × (digitOf lower < 16)
-digits upper lower t =
-    let e = and-eq-true-iff (ltb (digitOf upper) 16) (ltb (digitOf lower) 16) .0 t in
-    (ltb-true (digitOf upper) 16 (e .0), ltb-true (digitOf lower) 16 (e .1))
 
 pub pairs-line : (line : List ℕ) → pairsOk line ≡ true → lineOk line ≡ true
 pairs-line [] t = refl

@@ -1,11 +1,13 @@
 -- Paper 01, the program `bench`: one frame a line as hex pairs, either case, parted by single spaces; the reply so in
 -- capitals.
 use mathlib.Core.Path.{_≡_}
-use Prim.Native.Nat.{ℕ, _+_, _-_, _*_, _/_, _%_, _<_, min}
+use Prim.Native.Nat.{ℕ, _+_, _*_, _<_, min}
 use mathlib.Core.Bool.{Bool, true, false, _&&_, cond}
 use mathlib.Core.List.{List, [], _∷_, _++_}
-use lib.Dec.{leb, ltb, eqb}
-use lib.ListN.{length, getD, take, drop}
+use lib.Dec.{leb, eqb}
+use lib.ListN.{length, getD, take}
+use lib.Seq.{sets}
+use Rattle.hex.specs.Hex.{pairOk, byteOf, pairOf}
 use Rattle.lines.specs.declared.Line.{Line}
 use Rattle.lines.specs.declared.Line.the-variants.{Frame, Bad}
 
@@ -13,22 +15,6 @@ use Rattle.lines.specs.declared.Line.the-variants.{Frame, Bad}
 unfoldable pub lineLength : List ℕ → ℕ
 lineLength [] = 0
 lineLength (c ∷ cs) = cond (eqb c 0x0A) 0 (1 + lineLength cs)
-
--- the value of a hex digit, either case; 16 where it is none
-abbrev pub digitOf : ℕ → ℕ
-digitOf c =
-    cond (leb 0x30 c && leb c 0x39) (c - 0x30)
-    (cond (leb 0x41 c && leb c 0x46) (c - 0x37)
-    (cond (leb 0x61 c && leb c 0x66) (c - 0x57)
-    16))
-
--- two hex digits
-abbrev pub pairOk : ℕ → ℕ → Bool
-pairOk upper lower = ltb (digitOf upper) 16 && ltb (digitOf lower) 16
-
--- their byte
-abbrev pub byteOf : ℕ → ℕ → ℕ
-byteOf upper lower = 16 * digitOf upper + digitOf lower
 
 -- hex pairs, parted by single spaces
 unfoldable pub pairsOk : List ℕ → Bool
@@ -49,32 +35,24 @@ abbrev pub lineOk : List ℕ → Bool
 lineOk [] = true
 lineOk (c ∷ cs) = pairsOk (c ∷ cs)
 
--- bytes at the start of a buffer, the rest of it as it was
-abbrev pub over : List ℕ → List ℕ → List ℕ
-over bytes buffer = bytes ++ drop (length bytes) buffer
-
 -- a line in, its frame out: as much of it as there is room for
 abbrev pub lineOf : List ℕ → ℕ → Line
 lineOf line room = cond (lineOk line) (Frame (min (length (bytesOf line)) room)) Bad
 
--- the buffer then
+-- the buffer then: its bytes stand at the start, and the rest is as it was
 abbrev pub frameOver : List ℕ → List ℕ → List ℕ
-frameOver line buffer = cond (lineOk line) (over (take (length buffer) (bytesOf line)) buffer) buffer
+frameOver line buffer = cond (lineOk line) (sets buffer 0 (take (length buffer) (bytesOf line))) buffer
 
 -- all that the contract of `frame` allows: its answer, and every byte of the buffer
 pub record FrameRead (line before : List ℕ) (answer : Line) (after : List ℕ) : Type 0 where
   pub told : answer ≡ lineOf line (length before)
   pub bytes : after ≡ frameOver line before
 
--- a hex digit, in capitals
-abbrev pub capital : ℕ → ℕ
-capital d = cond (ltb d 10) (0x30 + d) (0x37 + d)
-
 -- bytes as hex pairs in capitals, parted by single spaces
 unfoldable pub textOf : List ℕ → List ℕ
 textOf [] = []
-textOf (b ∷ []) = capital (b / 16) ∷ capital (b % 16) ∷ []
-textOf (b ∷ c ∷ bs) = capital (b / 16) ∷ capital (b % 16) ∷ 0x20 ∷ textOf (c ∷ bs)
+textOf (b ∷ []) = pairOf b
+textOf (b ∷ c ∷ bs) = pairOf b ++ (0x20 ∷ textOf (c ∷ bs))
 
 -- there is room for three characters a byte
 abbrev pub textFits : List ℕ → ℕ → Bool
@@ -84,9 +62,9 @@ textFits bytes room = leb (3 * length bytes) room
 abbrev pub textLength : List ℕ → ℕ → ℕ
 textLength bytes room = cond (textFits bytes room) (length (textOf bytes)) 0
 
--- the buffer then
+-- the buffer then: the text stands at the start, and the rest is as it was
 abbrev pub textOver : List ℕ → List ℕ → List ℕ
-textOver bytes buffer = cond (textFits bytes (length buffer)) (over (textOf bytes) buffer) buffer
+textOver bytes buffer = cond (textFits bytes (length buffer)) (sets buffer 0 (textOf bytes)) buffer
 
 -- all that the contract of `text` allows: its answer, and every byte of the buffer
 pub record TextPut (frame before : List ℕ) (answer : ℕ) (after : List ℕ) : Type 0 where

@@ -1,11 +1,10 @@
 // One frame a line, as hex pairs parted by single spaces (paper 01, the program `bench`).
 ghost use mathlib.Core.Path.{_≡_};
-ghost use Prim.Native.Nat.{_+_, _*_, _/_, _%_, _≤_, _<_, min};
+ghost use Prim.Native.Nat.{_+_, _*_, _≤_, min};
 ghost use mathlib.Core.Bool.{true};
-ghost use mathlib.Core.List.{[], _∷_};
 ghost use lib.ListN.{length, take, drop};
 ghost use lib.Seq.{sets};
-ghost use Rattle.lines.specs.Lines.{lineLength, digitOf, pairOk, byteOf, bytesOf, lineOk, over, FrameRead, capital, textOf, TextPut};
+ghost use Rattle.lines.specs.Lines.{lineLength, bytesOf, lineOk, FrameRead, textOf, TextPut};
 
 pub const LINE_FEED: u8 = 0x0A;
 
@@ -31,35 +30,6 @@ pub fn line_end(input: &[u8], from: usize) -> usize
     i
 }
 
-// 16 stands for what is no digit, so that one test tells.
-fn digit(c: u8) -> u8
-    ensures { λ r. ⌜ r ≡ digitOf c ⌝ }
-{
-    if (b'0' <= c) & (c <= b'9') {
-        return c - b'0';
-    }
-    if (b'A' <= c) & (c <= b'F') {
-        return c - b'A' + 10;
-    }
-    if (b'a' <= c) & (c <= b'f') {
-        return c - b'a' + 10;
-    }
-    16
-}
-
-fn pair_ok(upper: u8, lower: u8) -> bool
-    ensures { λ r. ⌜ r ≡ pairOk upper lower ⌝ }
-{
-    (digit(upper) < 16) & (digit(lower) < 16)
-}
-
-fn byte_of(upper: u8, lower: u8) -> u8
-    requires { ⌜ (digitOf upper < 16) × (digitOf lower < 16) ⌝ }
-    ensures { λ r. ⌜ r ≡ byteOf upper lower ⌝ }
-{
-    16 * digit(upper) + digit(lower)
-}
-
 // Puts the frame that a line holds at the start of the buffer, as much of it as there is room for.
 pub fn frame(line: &[u8], buffer: &mut [u8]) -> Line
     ensures { λ r. ⌜ FrameRead (now (line .entry)) (now (buffer .entry)) r (now (buffer .exit)) ⌝ }
@@ -81,7 +51,7 @@ fn line_ok(line: &[u8]) -> bool
     }
     let mut i = 0;
     while 2 < n - i {
-        if pair_ok(line[i], line[i + 1]) & (line[i + 2] == SPACE) {
+        if hex::pair_ok(line[i], line[i + 1]) & (line[i + 2] == SPACE) {
             i += 3;
         } else {
             return false;
@@ -90,19 +60,19 @@ fn line_ok(line: &[u8]) -> bool
     if n - i != 2 {
         return false;
     }
-    pair_ok(line[i], line[i + 1])
+    hex::pair_ok(line[i], line[i + 1])
 }
 
 // Each pair starts three characters behind the one before it. Answers how many bytes it put.
 fn put_bytes(line: &[u8], buffer: &mut [u8]) -> usize
     requires { ⌜ lineOk (now line) ≡ true ⌝ }
     ensures { λ r. ⌜ r ≡ min (length (bytesOf (now (line .entry)))) (length (now (buffer .entry))) ⌝ }
-    ensures { λ _. ⌜ now (buffer .exit) ≡ over (take (length (now (buffer .entry))) (bytesOf (now (line .entry)))) (now (buffer .entry)) ⌝ }
+    ensures { λ _. ⌜ now (buffer .exit) ≡ sets (now (buffer .entry)) 0 (take (length (now (buffer .entry))) (bytesOf (now (line .entry)))) ⌝ }
 {
     let n = least((line.len() + 1) / 3, buffer.len());
     let mut i = 0;
     while i < n {
-        buffer[i] = byte_of(line[3 * i], line[3 * i + 1]);
+        buffer[i] = hex::byte_of(line[3 * i], line[3 * i + 1]);
         i += 1;
     }
     n
@@ -133,29 +103,14 @@ pub fn text(bytes: &[u8], buffer: &mut [u8]) -> usize
 // The last byte is put by itself, for no space stands behind it.
 fn put_text(bytes: &[u8], buffer: &mut [u8])
     requires { ⌜ (1 ≤ length (now bytes)) × (3 * length (now bytes) ≤ length (now buffer)) ⌝ }
-    ensures { λ _. ⌜ now (buffer .exit) ≡ over (textOf (now (bytes .entry))) (now (buffer .entry)) ⌝ }
+    ensures { λ _. ⌜ now (buffer .exit) ≡ sets (now (buffer .entry)) 0 (textOf (now (bytes .entry))) ⌝ }
 {
     let last = bytes.len() - 1;
     let mut i = 0;
     while i < last {
-        put_digits(buffer, 3 * i, bytes[i]);
+        hex::put_digits(buffer, 3 * i, bytes[i]);
         buffer[3 * i + 2] = SPACE;
         i += 1;
     }
-    put_digits(buffer, 3 * i, bytes[i]);
-}
-
-fn put_digits(buffer: &mut [u8], at: usize, b: u8)
-    requires { ⌜ at + 2 ≤ length (now buffer) ⌝ }
-    ensures { λ _. ⌜ now (buffer .exit) ≡ sets (now (buffer .entry)) at (capital (b / 16) ∷ capital (b % 16) ∷ []) ⌝ }
-{
-    buffer[at] = capital(b / 16);
-    buffer[at + 1] = capital(b % 16);
-}
-
-fn capital(d: u8) -> u8
-    requires { ⌜ d < 16 ⌝ }
-    ensures { λ r. ⌜ r ≡ capital d ⌝ }
-{
-    if d < 10 { b'0' + d } else { b'A' + (d - 10) }
+    hex::put_digits(buffer, 3 * i, bytes[i]);
 }

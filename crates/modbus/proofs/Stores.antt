@@ -1,14 +1,18 @@
 -- Bytes that are stored from the start of a buffer on: all of it, and some with their CRC behind them.
 use mathlib.Core.Path.{_≡_, refl, sym, ap, _∙_}
 use mathlib.Core.Bool.{Bool}
-use mathlib.Core.List.{List, append-nil}
+use mathlib.Core.List.{List, _++_, append-nil}
 use Prim.Native.Nat.{ℕ, _+_, _≤_}
+use native.Mathlib.Nat.{zero-add}
 use native.Mathlib.Omega.{arith}
 use lib.ListN.{length, take, drop, drop-of-length-le}
-use lib.Seq.{sets, length-sets, take-at, drop-append-add, drop-drop}
-use Rattle.words.proofs.Laws.{sets-front}
+use lib.Seq.{sets, sets-eq, length-sets, take-at, drop-append-add, drop-drop}
 use Rattle.crc.specs.Crc.{sealed, Put}
 use Rattle.crc.proofs.Laws.{length-sealed, put-parts}
+
+-- what stands in a buffer then
+pub sets-front : (l a : List ℕ) → length a ≤ length l → sets l 0 a ≡ a ++ drop (length a) l
+sets-front l a h = simp zero-add at (sets-eq a l 0 (rw zero-add h))
 
 -- all of a buffer
 pub sets-whole : (b bs : List ℕ) → length bs ≡ length b → sets b 0 bs ≡ bs

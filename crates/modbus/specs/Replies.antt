@@ -1,11 +1,11 @@
--- Paper 01, "What the meter does with a frame": the bytes of a reply, CRC included.
-use Prim.Native.Nat.{ℕ, _+_, _*_}
+-- Paper 01, "What the meter does with a frame": the bytes of a reply that carries no measurement, CRC included.
+use Prim.Native.Nat.{ℕ, _+_}
 use mathlib.Core.List.{List, [], _∷_}
 use lib.ListN.{take}
 use Rattle.refusal.specs.declared.ErrorCode.{ErrorCode}
 use Rattle.refusal.specs.Numbers.{errorNumber}
 use Rattle.crc.specs.Crc.{sealed}
-use Rattle.modbus.specs.Frame.{addressOf, functionOf, wordNumber}
+use Rattle.modbus.specs.Frame.{addressOf, functionOf}
 
 -- an error reply is address, function + 0x80, code, CRC
 abbrev pub errorBytes : List ℕ → ℕ → List ℕ
@@ -18,7 +18,3 @@ errorReply frame code = errorBytes frame (errorNumber code)
 -- address, function, start and word number, a frame's first six bytes, are echoed
 abbrev pub echoReply : List ℕ → List ℕ
 echoReply frame = sealed (take 6 frame)
-
--- data: address, function, byte number, the words
-abbrev pub dataReply : List ℕ → List ℕ → List ℕ
-dataReply frame words = sealed (addressOf frame ∷ functionOf frame ∷ 2 * wordNumber frame ∷ words)

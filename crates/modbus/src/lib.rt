@@ -43,11 +43,6 @@ const WRITE_HEAD: usize = 7;
 
 const WRITE_FRAME: usize = 9;
 
-pub enum Verdict {
-    Good,
-    Wrong(ErrorCode),
-}
-
 // Whether a meter keeps silent on a frame. Address and function are looked at first: foreign frames are most of what
 // a meter hears, and the CRC is the dear part.
 pub fn silence(own: u8, frame: &[u8]) -> bool

@@ -1,5 +1,4 @@
 // What the collector makes of a reply, item by item and in words.
-use crate::say;
 use collector::Answer;
 use collector::Count;
 use collector::Quantity;

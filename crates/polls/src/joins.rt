@@ -1,5 +1,4 @@
 // Energies joined from their parts, and what a join refuses.
-use crate::say;
 use collector::Count;
 use collector::Joined;
 use collector::Ratios;

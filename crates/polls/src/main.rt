@@ -4,7 +4,6 @@ mod answers;
 mod joins;
 mod refusals;
 mod replies;
-mod say;
 
 fn main() {
     replies::examples();

@@ -3,7 +3,7 @@ use Prim.Native.Nat.{ℕ, _/_, _^_, _≤_, _<_}
 use mathlib.Core.Bool.{Bool, true, false, cond}
 use native.Mathlib.Omega.{arith}
 use lib.Dec.{ltb}
-use Rattle.ratio.specs.Powers.{powerUnit, topPower, powerLimit, powerRegister, signWord}
+use Rattle.ratio.specs.Powers.{powerUnit, topPower, powerLimit, powerRegister}
 
 some : (b : Bool) → 1 ≤ cond b 1 100
 some true = omega arith
@@ -44,8 +44,3 @@ powers-fit =
       register = λ t. register (ltb t 50000);
       signed = λ t x h. omega (arith, power-laws .limit t);
     }
-
--- a sign word is 0 or 1
-pub sign-most : (negative : Bool) → signWord negative ≤ 1
-sign-most true = omega arith
-sign-most false = omega arith

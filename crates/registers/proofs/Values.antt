@@ -10,8 +10,9 @@ use borrow.Author.Tests.{ltb-true, ltb-false}
 use lib.ListN.{length, getD, drop, List·getD-map, List·getD-append, List·getD-eq-default}
 use lib.Seq.{getD-append-add}
 use Rattle.signed.specs.declared.Signed.{Signed}
+use Rattle.signed.specs.Signs.{signWord}
 use Rattle.words.proofs.Signs.{twos-plain}
-use Rattle.ratio.specs.Powers.{powerLimit, powerRegister, signWord, signedPower}
+use Rattle.ratio.specs.Powers.{powerLimit, powerRegister}
 use Rattle.counts.specs.Energies.{topWh, registerOf, wrapOf, lowOf, highOf}
 use Rattle.directory.proofs.ByKind.{kind-is, none-at}
 use Rattle.meter.specs.declared.energies.Energy.{Energy}
@@ -19,6 +20,7 @@ use Rattle.meter.specs.declared.Meter.{Meter}
 use Rattle.meter.specs.Energies.{energyOk}
 use Rattle.meter.specs.Meters.{meterT, meterOk, energiesOf, energyAt}
 use Rattle.meter.proofs.Parts.{meter-parts, sample-parts, phases-most, powers-phases, powers-sum, energy-top}
+use Rattle.registers.specs.SignedWords.{signedPower}
 use Rattle.registers.specs.Shown.{powersOf, powerAt, powerValues, signedValues, signValues, countValues, lowValues, highValues, wrapValues, plainValues, valuesOf, shownOf}
 
 each : {A : Type 0} (f : A → ℕ) (l : List A) (i : ℕ) (d : A) → f d ≡ 0 → getD (map f l) i 0 ≡ f (getD l i d)

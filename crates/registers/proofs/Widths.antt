@@ -9,7 +9,8 @@ use lib.Dec.{eqb, leb}
 use borrow.Author.Tests.{eqb-true, eqb-false, leb-true}
 use lib.ListN.{length, getD, take, replicate, getD-replicate, length-append, List·getD-append}
 use Rattle.words.proofs.Signs.{twos-fits}
-use Rattle.ratio.proofs.Powers.{powers-fit, sign-most}
+use Rattle.signed.proofs.Signs.{sign-most}
+use Rattle.ratio.proofs.Powers.{powers-fit}
 use Rattle.counts.proofs.Joins.{counts-fit}
 use Rattle.directory.specs.Quantity.{quantity, energyCount, low, high, wrap, widths, widthOf}
 use Rattle.directory.specs.Order.{roomOf}

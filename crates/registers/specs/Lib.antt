@@ -1,2 +1,3 @@
+pub mod SignedWords
 pub mod Shown
 pub mod Cases

@@ -5,14 +5,15 @@ use mathlib.Core.Bool.{false}
 use mathlib.Core.List.{List, [], _∷_, _++_, map}
 use lib.ListN.{getD}
 use Rattle.signed.specs.declared.Signed.{Signed}
-use Rattle.signed.specs.Signs.{signedOf}
-use Rattle.ratio.specs.Powers.{powerRegister, signWord, signedPower, factorHundredths, factorThousandths}
+use Rattle.signed.specs.Signs.{signedOf, signWord}
+use Rattle.ratio.specs.Powers.{powerRegister}
 use Rattle.counts.specs.Energies.{registerOf, wrapOf, lowOf, highOf}
 use Rattle.meter.specs.declared.energies.Energy.{Energy}
 use Rattle.meter.specs.declared.samples.Sample.{Sample}
 use Rattle.meter.specs.declared.Meter.{Meter}
 use Rattle.meter.specs.Samples.{threeOf, factorOf}
 use Rattle.meter.specs.Meters.{meterT, energiesOf}
+use Rattle.registers.specs.SignedWords.{signedPower, factorHundredths, factorThousandths}
 
 -- the signed powers: 3-phase P and Q, then P and Q phase by phase
 abbrev pub powersOf : Sample → List Signed

@@ -5,7 +5,7 @@ ghost use mathlib.Core.Bool.{true};
 ghost use mathlib.Core.List.{[], _∷_, _++_};
 ghost use Prim.Native.Nat.{_≤_};
 ghost use lib.ListN.{getD};
-ghost use Rattle.ratio.specs.Powers.{signWord};
+ghost use Rattle.signed.specs.Signs.{signWord};
 ghost use Rattle.meter.specs.Samples.{factorOf};
 ghost use Rattle.meter.specs.Meters.{meterOk, energyAt};
 ghost use Rattle.registers.specs.Shown.{powerAt, powerValues, signedValues, signValues, countValues, lowValues, highValues, wrapValues, factorValues, plainValues, shownOf};

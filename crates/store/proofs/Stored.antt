@@ -6,10 +6,10 @@ use Prim.Native.Nat.{ℕ}
 use borrow.Author.Tests.{eq-eqb, ne-eqb, eqb-true}
 use Rattle.refusal.specs.declared.ErrorCode.the-variants.{Address, Data}
 use Rattle.setup.specs.Ranges.{groupOk}
-use Rattle.modbus.specs.declared.Verdict.the-variants.{Good}
 use Rattle.modbus.specs.Frame.{startOf, wordNumber, valuesOf, writeShaped}
 use Rattle.meter.specs.declared.Meter.{Meter}
 use Rattle.meter.specs.Meters.{withSetup}
+use Rattle.store.specs.declared.Verdict.the-variants.{Good}
 use Rattle.store.specs.Writes.{toStandard, toOutput, wrongOf, writtenOf}
 
 module _ (m : Meter) (frame : List ℕ) where

@@ -12,13 +12,13 @@ use Rattle.refusal.specs.declared.ErrorCode.the-variants.{Address, Data}
 use Rattle.refusal.specs.Numbers.{errorBy}
 use Rattle.refusal.proofs.Distinct.{one-reason-each, caseIn, numberIn}
 use Rattle.setup.specs.Ranges.{groupOk}
-use Rattle.modbus.specs.declared.Verdict.{Verdict}
-use Rattle.modbus.specs.declared.Verdict.the-variants.{Good, Wrong}
 use Rattle.modbus.specs.Frame.{startOf, wordNumber, valuesOf, writeShaped}
 use Rattle.meter.specs.declared.Meter.{Meter}
 use Rattle.meter.specs.Meters.{meterOk, withSetup}
 use Rattle.meter.proofs.Parts.{meter-parts}
 use Rattle.meter.proofs.Answers.{other-within}
+use Rattle.store.specs.declared.Verdict.{Verdict}
+use Rattle.store.specs.declared.Verdict.the-variants.{Good, Wrong}
 use Rattle.store.specs.declared.Written.{Written}
 use Rattle.store.specs.Writes.{toStandard, toOutput, groupWords, storedOf, wrongOf, writtenOf, toGroup, fits, verdictTold, WriteWhen}
 

@@ -1,4 +1,4 @@
--- Paper 01, "What the meter does with a frame", step 5: how a write is judged, its reply, and what it stores.
+-- Paper 01, "What the meter does with a frame", step 5: how a write is judged, and what it stores.
 use mathlib.Core.Path.{_≡_}
 use Prim.Native.Nat.{ℕ}
 use mathlib.Core.Logic.{_↔_, _⊎_}
@@ -9,12 +9,11 @@ use Rattle.refusal.specs.declared.ErrorCode.{ErrorCode}
 use Rattle.refusal.specs.declared.ErrorCode.the-variants.{Address, Data}
 use Rattle.refusal.specs.Numbers.{errorNumber, errorBy}
 use Rattle.setup.specs.Ranges.{groupOk}
-use Rattle.modbus.specs.declared.Verdict.{Verdict}
-use Rattle.modbus.specs.declared.Verdict.the-variants.{Good, Wrong}
 use Rattle.modbus.specs.Frame.{startOf, wordNumber, valuesOf, writeShaped}
-use Rattle.modbus.specs.Replies.{errorReply, echoReply}
 use Rattle.meter.specs.declared.Meter.{Meter}
 use Rattle.meter.specs.Meters.{withSetup}
+use Rattle.store.specs.declared.Verdict.{Verdict}
+use Rattle.store.specs.declared.Verdict.the-variants.{Good, Wrong}
 use Rattle.store.specs.declared.Written.{Written}
 
 -- the group of 16 words (0x2000)
@@ -57,11 +56,6 @@ writtenOf m frame =
     (cond (not (groupOk (startOf frame) (valuesOf frame))) (wrongOf m Data)
     -- else the group is stored
     (record { verdict = Good; meter = storedOf m frame }))))
-
--- and address, function, start and word number are echoed
-abbrev pub writeReply : List ℕ → Verdict → List ℕ
-writeReply frame (Wrong code) = errorReply frame code
-writeReply frame Good = echoReply frame
 
 -- its words are that group's, and each value is in range
 abbrev pub fits : List ℕ → Bool

@@ -5,10 +5,15 @@ ghost use Rattle.modbus.specs.Frame.{writeShaped};
 ghost use Rattle.meter.specs.Meters.{withSetup};
 ghost use Rattle.store.specs.Writes.{toStandard, toOutput, writtenOf, wrongOf};
 use meter::Meter;
-use modbus::Verdict;
 use refusal::ErrorCode;
 
-// How a write is judged, beside the meter that follows from it.
+// How a write is judged.
+pub enum Verdict {
+    Good,
+    Wrong(ErrorCode),
+}
+
+// The verdict, beside the meter that follows from it.
 pub struct Written {
     pub verdict: Verdict,
     pub meter: Meter,

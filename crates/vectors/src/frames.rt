@@ -1,5 +1,4 @@
 // The documents' frames: what a meter answers whose record gives the printed answer, which the file `stdout` has.
-use crate::say;
 use board::Reply;
 use meter::Meter;
 use ratio::Ratios;

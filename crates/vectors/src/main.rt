@@ -1,7 +1,6 @@
 // The documents' examples, run: what each comes to is printed, and held to the file `stdout`.
 mod frames;
 mod meters;
-mod say;
 
 use ratio::Ratios;
 

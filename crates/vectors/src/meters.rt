@@ -1,5 +1,4 @@
 // The meter's examples: samples, what its registers then show, and what it refuses.
-use crate::say;
 use board::Reply;
 use directory::quantity::*;
 use meter::Answer;
@@ -130,10 +129,11 @@ fn out_of_limits() {
 
 fn answer(name: &[u8], a: Answered) {
     say::text(name);
+    say::text(b": ");
     let answer = a.answer;
     match answer {
-        Answer::Accepted => say::text(b": accepted"),
-        Answer::Refused(r) => say::field(b": refused ", r.number() as u64),
+        Answer::Accepted => say::text(b"accepted"),
+        Answer::Refused(reason) => say::refused(reason),
     }
     say::end();
 }
@@ -179,12 +179,13 @@ fn of_a_frame() {
 
 fn handled(name: &[u8], m: Meter, buffer: &mut [u8]) {
     say::text(name);
+    say::text(b": ");
     let handled = board::handle(m, &[1u8, 3], buffer);
     let reply = handled.reply;
     match reply {
-        Reply::Silent => say::text(b": silent"),
-        Reply::Sent(n) => say::field(b": bytes sent ", n as u64),
-        Reply::Refused(r) => say::field(b": refused ", r.number() as u64),
+        Reply::Silent => say::text(b"silent"),
+        Reply::Sent(n) => say::field(b"bytes sent ", n as u64),
+        Reply::Refused(reason) => say::refused(reason),
     }
     say::end();
 }

@@ -15,10 +15,6 @@ sets-append l i (x ∷ a) b =
     let e : i + suc (length a) ≡ suc i + length a = omega arith in
     rw e (sets-append (set l i x) (suc i) a b)
 
--- and at the front
-pub sets-front : (l a : List ℕ) → length a ≤ length l → sets l 0 a ≡ a ++ drop (length a) l
-sets-front l a h = simp zero-add at (sets-eq a l 0 (rw zero-add h))
-
 pub length-sent : (n v : ℕ) → length (sent n v) ≡ 2 * n
 unfolding sent
 length-sent zero v = refl

@@ -39,11 +39,11 @@ enum-known-n c = search needs
 enum-told : tie.Need-enum-told
 enum-told c = search needs
 
-slice-aggregate-say : tie.Need-slice-aggregate-say
-slice-aggregate-say c = search needs
+slice-aggregate-text : tie.Need-slice-aggregate-text
+slice-aggregate-text c = search needs
 
-say-requires : tie.Need-say-requires
-say-requires c κs = search needs
+text-requires : tie.Need-text-requires
+text-requires c κs = search needs
 
 returns : tie.Need-returns
 returns c = search needs
@@ -77,8 +77,8 @@ answer-spec =
     frame-requires
     enum-known-n
     enum-told
-    slice-aggregate-say
-    say-requires
+    slice-aggregate-text
+    text-requires
     returns
     array-share-prefix-frame
     slice-aggregate-handle

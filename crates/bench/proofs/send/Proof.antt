@@ -39,11 +39,11 @@ add-text c = omega (arith, written (c .before))
 array-share-prefix-text : tie.Need-array-share-prefix-text
 array-share-prefix-text c = simp length-set (omega (arith, written (c .before)))
 
-slice-aggregate-say : tie.Need-slice-aggregate-say
-slice-aggregate-say c = sym (length-take-le _ _ (simp length-set (omega (arith, written (c .before .before)))))
+slice-aggregate-text-2 : tie.Need-slice-aggregate-text-2
+slice-aggregate-text-2 c = sym (length-take-le _ _ (simp length-set (omega (arith, written (c .before .before)))))
 
-say-requires : tie.Need-say-requires
-say-requires c κs = search needs
+text-requires-2 : tie.Need-text-requires-2
+text-requires-2 c κs = search needs
 
 returns : tie.Need-returns
 returns c = search needs
@@ -57,6 +57,6 @@ send-spec =
     array-write-text
     add-text
     array-share-prefix-text
-    slice-aggregate-say
-    say-requires
+    slice-aggregate-text-2
+    text-requires-2
     returns)

@@ -18,11 +18,11 @@ within c =
 enum-told : tie.Need-enum-told
 enum-told c = search needs
 
-slice-aggregate-say : tie.Need-slice-aggregate-say
-slice-aggregate-say c = search needs
+slice-aggregate-text : tie.Need-slice-aggregate-text
+slice-aggregate-text c = search needs
 
-say-requires : tie.Need-say-requires
-say-requires c κs = search needs
+text-requires : tie.Need-text-requires
+text-requires c κs = search needs
 
 enum-known-did : tie.Need-enum-known-did
 enum-known-did c = search needs
@@ -38,26 +38,11 @@ send-requires c κs =
 enum-known-did-2 : tie.Need-enum-known-did-2
 enum-known-did-2 c = search needs
 
-slice-aggregate-say-2 : tie.Need-slice-aggregate-say-2
-slice-aggregate-say-2 c = search needs
+refused-requires : tie.Need-refused-requires
+refused-requires c κs = search needs
 
-say-requires-2 : tie.Need-say-requires-2
-say-requires-2 c κs = search needs
-
-number-requires : tie.Need-number-requires
-number-requires c κs = search needs
-
-cast-print-decimal : tie.Need-cast-print-decimal
-cast-print-decimal c = search needs
-
-print-decimal-requires : tie.Need-print-decimal-requires
-print-decimal-requires c κs = search needs
-
-slice-aggregate-say-3 : tie.Need-slice-aggregate-say-3
-slice-aggregate-say-3 c = search needs
-
-say-requires-3 : tie.Need-say-requires-3
-say-requires-3 c κs = search needs
+end-requires : tie.Need-end-requires
+end-requires c κs = search needs
 
 returns : tie.Need-returns
 returns c = search needs
@@ -73,19 +58,14 @@ tell-spec =
     tie.close
     (tie.spec
     enum-told
-    slice-aggregate-say
-    say-requires
+    slice-aggregate-text
+    text-requires
     enum-known-did
     slice-aggregate-send
     send-requires
     enum-known-did-2
-    slice-aggregate-say-2
-    say-requires-2
-    number-requires
-    cast-print-decimal
-    print-decimal-requires
-    slice-aggregate-say-3
-    say-requires-3
+    refused-requires
+    end-requires
     returns
     returns-2
     returns-3)

@@ -2,8 +2,8 @@
 use mathlib.Core.Path.{_≡_, _∙_}
 use native.Mathlib.Omega.{arith}
 use borrow.Author.Needs.{needs}
-use Rattle.modbus.specs.declared.Verdict.the-variants.{Good, Wrong}
 use Rattle.modbus.proofs.Frames.{heeded, shaped-length}
+use Rattle.store.specs.declared.Verdict.the-variants.{Good, Wrong}
 use Rattle.store.specs.Writes.{writtenOf}
 use Rattle.board.proofs.Cases.{allowed, write-silent, write-sent}
 use Rattle.store.proofs.Verdicts.{write-when}

@@ -7,7 +7,8 @@ use native.Mathlib.Omega.{arith}
 use lib.Dec.{eqb}
 use lib.ListN.{length, getD, drop, length-drop, drop-of-length-le}
 use lib.Seq.{drop-cons}
-use Rattle.lines.specs.Lines.{pairOk, pairsOk, lineOk}
+use Rattle.hex.specs.Hex.{pairOk}
+use Rattle.lines.specs.Lines.{pairsOk, lineOk}
 use Rattle.lines.proofs.Laws.{nothing, two}
 use Rattle.lines.proofs.line_ok.Statement.{statement}
 use Rattle.lines.proofs.line_ok.Tie as tie

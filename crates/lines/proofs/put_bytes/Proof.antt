@@ -8,8 +8,8 @@ use native.Mathlib.Numerals.{add-one}
 use native.Mathlib.Omega.{arith}
 use lib.ListN.{length, getD, set, take, drop, length-take, length-drop, length-set}
 use lib.Seq.{sets}
-use Rattle.lines.specs.Lines.{byteOf, bytesOf, lineOk, over}
-use Rattle.words.proofs.Laws.{sets-front}
+use Rattle.hex.specs.Hex.{byteOf}
+use Rattle.lines.specs.Lines.{bytesOf, lineOk}
 use Rattle.lines.proofs.Laws.{nothing, bytes-length, turn-ok, turn-bytes}
 use Rattle.lines.proofs.put_bytes.Statement.{statement}
 use Rattle.lines.proofs.put_bytes.Tie as tie
@@ -19,13 +19,10 @@ Inv-loop line buffer₀ n i₀ buffer i =
     (i ≤ n) ×
     (length buffer ≡ length buffer₀) ×
     (lineOk (drop (3 * i) line) ≡ true) ×
-    (sets buffer i (take (length buffer₀ - i) (bytesOf (drop (3 * i) line))) ≡ over (take (length buffer₀) (bytesOf line)) buffer₀)
+    (sets buffer i (take (length buffer₀ - i) (bytesOf (drop (3 * i) line))) ≡ sets buffer₀ 0 (take (length buffer₀) (bytesOf line)))
 
 abbrev μ-loop : tie.MeasureT-loop
 μ-loop line buffer₀ n i₀ buffer i = n - i
-
-starts : (buffer bytes : List ℕ) → sets buffer 0 (take (length buffer - 0) bytes) ≡ over (take (length buffer) bytes) buffer
-starts buffer bytes = rw sub-zero (sets-front buffer (take (length buffer) bytes) (simp length-take (omega arith)))
 
 turn : (line buffer : List ℕ) (i room r : ℕ) → 3 * i + 2 ≤ length line → i < room → r ≡ byteOf (getD line (3 * i) 0) (getD line (3 * i + 1) 0) → sets (set buffer i r) (i + 1) (take (room - (i + 1)) (bytesOf (drop (3 * (i + 1)) line))) ≡ sets buffer i (take (room - i) (bytesOf (drop (3 * i) line)))
 turn line buffer i room r h inside e =
@@ -46,7 +43,7 @@ least-requires : tie.Need-least-requires Inv-loop μ-loop
 least-requires c κs = tt
 
 loop-holds : tie.Need-loop-holds Inv-loop μ-loop
-loop-holds c = (omega arith, refl, c .before .before .before .pre, starts (c .before .before .before .args .buffer .now) _)
+loop-holds c = (omega arith, refl, c .before .before .before .pre, rw sub-zero)
 
 mul-byte-of : tie.Need-mul-byte-of Inv-loop μ-loop
 mul-byte-of c = omega arith

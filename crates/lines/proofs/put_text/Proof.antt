@@ -1,15 +1,14 @@
 -- The text of what is left, stored where the next byte's digits stand, makes the buffer that is due.
 use mathlib.Core.Path.{_≡_, refl, sym, _∙_}
-use mathlib.Core.List.{List, [], _∷_}
-use Prim.Native.Nat.{ℕ, suc, _+_, _-_, _*_, _/_, _%_, _≤_}
+use mathlib.Core.List.{List}
+use Prim.Native.Nat.{ℕ, suc, _+_, _-_, _*_, _≤_}
 use native.Mathlib.Omega.{arith}
 use lib.ListN.{length, getD, set, drop, length-set, drop-of-length-le}
 use lib.Seq.{sets, drop-cons}
 use borrow.Author.Needs.{needs}
-use Rattle.lines.specs.Lines.{capital, textOf, over}
-use Rattle.words.proofs.Laws.{sets-front}
+use Rattle.hex.specs.Hex.{pairOf}
+use Rattle.lines.specs.Lines.{textOf}
 use Rattle.lines.proofs.Laws.{two}
-use Rattle.lines.proofs.Texts.{text-length}
 use Rattle.lines.proofs.put_text.Statement.{statement}
 use Rattle.lines.proofs.put_text.Tie as tie
 
@@ -17,16 +16,12 @@ abbrev Inv-loop : tie.InvT-loop
 Inv-loop bytes buffer₀ last i₀ buffer i =
     (i ≤ last) ×
     (length buffer ≡ length buffer₀) ×
-    (sets buffer (3 * i) (textOf (drop i bytes)) ≡ over (textOf bytes) buffer₀)
+    (sets buffer (3 * i) (textOf (drop i bytes)) ≡ sets buffer₀ 0 (textOf bytes))
 
 abbrev μ-loop : tie.MeasureT-loop
 μ-loop bytes buffer₀ last i₀ buffer i = last - i
 
--- the two digits of a byte
-abbrev both : ℕ → List ℕ
-both b = capital (b / 16) ∷ capital (b % 16) ∷ []
-
-turn : (bytes buffer after : List ℕ) (i : ℕ) → i + 2 ≤ length bytes → after ≡ sets buffer (3 * i) (both (getD bytes i 0)) → sets (set after (3 * i + 2) 0x20) (3 * (i + 1)) (textOf (drop (i + 1) bytes)) ≡ sets buffer (3 * i) (textOf (drop i bytes))
+turn : (bytes buffer after : List ℕ) (i : ℕ) → i + 2 ≤ length bytes → after ≡ sets buffer (3 * i) (pairOf (getD bytes i 0)) → sets (set after (3 * i + 2) 0x20) (3 * (i + 1)) (textOf (drop (i + 1) bytes)) ≡ sets buffer (3 * i) (textOf (drop i bytes))
 unfolding textOf
 turn bytes buffer after i h e =
     let space : 3 * i + 2 ≡ suc (suc (3 * i)) = omega arith in
@@ -34,7 +29,7 @@ turn bytes buffer after i h e =
     let second : suc (i + 1) ≡ i + 2 = omega arith in
     rw (e, space, next, two bytes i h, drop-cons bytes (i + 1) 0 (omega arith), second)
 
-done : (bytes buffer : List ℕ) (i : ℕ) → i + 1 ≡ length bytes → sets buffer (3 * i) (textOf (drop i bytes)) ≡ sets buffer (3 * i) (both (getD bytes i 0))
+done : (bytes buffer : List ℕ) (i : ℕ) → i + 1 ≡ length bytes → sets buffer (3 * i) (textOf (drop i bytes)) ≡ sets buffer (3 * i) (pairOf (getD bytes i 0))
 unfolding textOf
 done bytes buffer i h = rw (drop-cons bytes i 0 (omega arith), drop-of-length-le bytes {i = suc i} (omega arith))
 
@@ -42,9 +37,7 @@ sub-last : tie.Need-sub-last Inv-loop μ-loop
 sub-last c = omega arith
 
 loop-holds : tie.Need-loop-holds Inv-loop μ-loop
-loop-holds c =
-    let s = c .before .before in
-    (omega arith, refl, sets-front (s .args .buffer .now) (textOf (s .args .bytes .now)) (omega (arith, text-length (s .args .bytes .now))))
+loop-holds c = (omega arith, refl, refl)
 
 mul-put-digits : tie.Need-mul-put-digits Inv-loop μ-loop
 mul-put-digits c = omega arith

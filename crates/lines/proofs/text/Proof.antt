@@ -4,9 +4,10 @@ use mathlib.Core.List.{List, []}
 use Prim.Native.Nat.{ℕ, _-_, _*_, _≤_, _<_}
 use native.Mathlib.Omega.{arith}
 use lib.ListN.{length}
+use lib.Seq.{sets}
 use borrow.Author.Needs.{needs}
 use borrow.Author.Tests.{le-leb, lt-leb}
-use Rattle.lines.specs.Lines.{over, textOf, TextPut}
+use Rattle.lines.specs.Lines.{textOf, TextPut}
 use Rattle.lines.proofs.Laws.{nothing}
 use Rattle.lines.proofs.Texts.{text-length}
 use Rattle.lines.proofs.text.Statement.{statement}
@@ -25,7 +26,7 @@ module _ (bytes buffer : List ℕ) where
       let t = lt-leb (3 * length bytes) (length buffer) h in
       record { told = simp t; bytes = simp t }
 
-  room : 3 * length bytes ≤ length buffer → TextPut bytes buffer (3 * length bytes - 1) (over (textOf bytes) buffer)
+  room : 3 * length bytes ≤ length buffer → TextPut bytes buffer (3 * length bytes - 1) (sets buffer 0 (textOf bytes))
   room h =
       let t = le-leb (3 * length bytes) (length buffer) h in
       record { told = simp (t, text-length); bytes = simp t }

@@ -6,8 +6,8 @@ use native.Mathlib.Omega.{arith}
 use lib.Dec.{leb}
 use borrow.Author.Needs.{needs}
 use borrow.Author.Tests.{leb-true}
-use Rattle.lines.proofs.digit.Statement.{statement}
-use Rattle.lines.proofs.digit.Tie as tie
+use Rattle.hex.proofs.digit.Statement.{statement}
+use Rattle.hex.proofs.digit.Tie as tie
 
 -- what the first test of a range says
 from : (low c : ℕ) (below : Bool) → (leb low c && below) ≡ true → low ≤ c

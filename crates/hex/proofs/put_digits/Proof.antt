@@ -3,8 +3,8 @@ use native.Mathlib.Numerals.{add-one}
 use native.Mathlib.Omega.{arith}
 use lib.ListN.{length-set}
 use borrow.Author.Needs.{needs}
-use Rattle.lines.proofs.put_digits.Statement.{statement}
-use Rattle.lines.proofs.put_digits.Tie as tie
+use Rattle.hex.proofs.put_digits.Statement.{statement}
+use Rattle.hex.proofs.put_digits.Tie as tie
 
 capital-requires : tie.Need-capital-requires
 capital-requires c κs = search needs

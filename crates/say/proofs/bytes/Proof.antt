@@ -2,8 +2,8 @@
 use Prim.Native.Nat.{_≤_, _-_}
 use native.Mathlib.Omega.{arith}
 use lib.ListN.{length}
-use Rattle.vectors.proofs.say.bytes.Statement.{statement}
-use Rattle.vectors.proofs.say.bytes.Tie as tie
+use Rattle.say.proofs.bytes.Statement.{statement}
+use Rattle.say.proofs.bytes.Tie as tie
 
 abbrev Inv-loop : tie.InvT-loop
 Inv-loop b i₀ i = i ≤ length b

@@ -1,7 +1,7 @@
 -- Both tests are those of the definition, on the digits that `digit` answers.
 use borrow.Author.Needs.{needs}
-use Rattle.lines.proofs.pair_ok.Statement.{statement}
-use Rattle.lines.proofs.pair_ok.Tie as tie
+use Rattle.hex.proofs.pair_ok.Statement.{statement}
+use Rattle.hex.proofs.pair_ok.Tie as tie
 
 digit-requires : tie.Need-digit-requires
 digit-requires c κs = search needs

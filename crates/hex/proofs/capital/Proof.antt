@@ -2,8 +2,8 @@
 use native.Mathlib.Omega.{arith}
 use borrow.Author.Needs.{needs}
 use borrow.Author.Tests.{lt-ltb, le-ltb}
-use Rattle.lines.proofs.capital.Statement.{statement}
-use Rattle.lines.proofs.capital.Tie as tie
+use Rattle.hex.proofs.capital.Statement.{statement}
+use Rattle.hex.proofs.capital.Tie as tie
 
 add-result : tie.Need-add-result
 add-result c = search needs

@@ -1,5 +1,7 @@
-// Text and numbers on standard output.
+// What the programs print with: text and numbers on standard output. It is no product code, and has no contracts: none can say what
+// is written.
 use libc::STDOUT_FILENO;
+use refusal::Refusal;
 
 pub fn text(t: &[u8]) {
     io::write_all(STDOUT_FILENO, t);
@@ -13,6 +15,10 @@ pub fn number(n: u64) {
 pub fn field(name: &[u8], n: u64) {
     text(name);
     number(n);
+}
+
+pub fn refused(reason: Refusal) {
+    field(b"refused ", reason.number() as u64);
 }
 
 pub fn end() {
