@@ -2,6 +2,7 @@
 ghost use mathlib.Core.Path.{_≡_};
 ghost use mathlib.Core.Bool.{true, false};
 ghost use Rattle.modbus.specs.Frame.{writeShaped};
+ghost use Rattle.meter.specs.Groups.{withStandard, withOutput};
 ghost use Rattle.meter.specs.Meters.{withSetup};
 ghost use Rattle.store.specs.Writes.{toStandard, toOutput, writtenOf, wrongOf};
 use meter::Meter;
@@ -57,10 +58,10 @@ fn standard(m: Meter, frame: &[u8]) -> Written
 }
 
 fn with_standard(m: Meter, group: [u16; 16]) -> Meter
-    ensures { λ r. ⌜ r ≡ withSetup m group (m .output) ⌝ }
+    ensures { λ r. ⌜ r ≡ withSetup m (withStandard (m .setup) group) ⌝ }
 {
     let mut next = m;
-    next.standard = group;
+    next.setup.standard = group;
     next
 }
 
@@ -84,9 +85,9 @@ fn output(m: Meter, frame: &[u8]) -> Written
 }
 
 fn with_output(m: Meter, group: [u16; 24]) -> Meter
-    ensures { λ r. ⌜ r ≡ withSetup m (m .standard) group ⌝ }
+    ensures { λ r. ⌜ r ≡ withSetup m (withOutput (m .setup) group) ⌝ }
 {
     let mut next = m;
-    next.output = group;
+    next.setup.output = group;
     next
 }
