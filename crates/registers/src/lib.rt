@@ -12,6 +12,7 @@ ghost use Rattle.registers.specs.Shown.{powerAt, powerValues, signedValu
 use counts::WattHours;
 use directory::quantity::*;
 use meter::Meter;
+use meter::groups::Setup;
 use meter::samples::Factor;
 use signed::Signed;
 
@@ -189,14 +190,21 @@ fn only(value: u16, which: u16) -> u32
 fn plain(m: Meter, which: u16) -> u32
     ensures { λ r. ⌜ r ≡ getD (plainValues m) which 0 ⌝ }
 {
-    let standard = m.setup.standard;
-    let output = m.setup.output;
     match which {
         ZEROS => 0,
         BYTE_IDENTIFIER => 0x11,
         WORD_IDENTIFIER => 0x1114,
-        _ => word_at(&standard, &output, (which - FIRST_SETUP) as usize) as u32,
+        _ => setup_at(m.setup, (which - FIRST_SETUP) as usize) as u32,
     }
+}
+
+// The setup words, numbered through both groups.
+fn setup_at(setup: Setup, i: usize) -> u16
+    ensures { λ r. ⌜ r ≡ getD (setup .standard ++ setup .output) i 0 ⌝ }
+{
+    let standard = setup.standard;
+    let output = setup.output;
+    word_at(&standard, &output, i)
 }
 
 // The words of two groups, numbered through.

@@ -60,8 +60,10 @@ fn standard(m: Meter, frame: &[u8]) -> Written
 fn with_standard(m: Meter, group: [u16; 16]) -> Meter
     ensures { λ r. ⌜ r ≡ withSetup m (withStandard (m .setup) group) ⌝ }
 {
+    let mut changed = m.setup;
+    changed.standard = group;
     let mut next = m;
-    next.setup.standard = group;
+    next.setup = changed;
     next
 }
 
@@ -87,7 +89,9 @@ fn output(m: Meter, frame: &[u8]) -> Written
 fn with_output(m: Meter, group: [u16; 24]) -> Meter
     ensures { λ r. ⌜ r ≡ withSetup m (withOutput (m .setup) group) ⌝ }
 {
+    let mut changed = m.setup;
+    changed.output = group;
     let mut next = m;
-    next.setup.output = group;
+    next.setup = changed;
     next
 }
