@@ -123,9 +123,7 @@ impl Meter {
         ensures { λ r. ⌜ r ≡ nextOf self sample ⌝ }
     {
         let mut next = self;
-        next.counters = self
-            .counters
-            .plus(sample.p.in_force(), sample.q.in_force());
+        next.counters = self.counters.plus(sample.p.in_force(), sample.q.in_force());
         next.latest = sample;
         next
     }
