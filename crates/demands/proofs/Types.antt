@@ -12,7 +12,6 @@ use Rattle.ratio.specs.declared.Ratios.{Ratios}
 use Rattle.modbus.specs.Frame.{wordNumber, wordsAt, valuesOf}
 use Rattle.modbus.proofs.Rows.{length-words}
 use Rattle.meter.specs.declared.samples.Sample.{Sample}
-use Rattle.meter.specs.declared.groups.Setup.{Setup}
 use Rattle.meter.specs.declared.Meter.{Meter}
 use Rattle.meter.specs.Samples.{sampleOk, noSample}
 use Rattle.meter.specs.Groups.{noSetup}
@@ -78,14 +77,14 @@ module _ (frame : List ℕ) (bytes : (i : ℕ) → getD frame i 0 < 256) where
   values-typed n e = record { long = length-words (wordNumber frame) frame 7 ∙ e; word = words-fit (wordNumber frame) 7 }
 
   stored-typed : (m : Meter) → Typed m → Stores m frame → Typed (storedOf m frame)
-  stored-typed m typed stores = record { latest = typed .latest; setup = by (toStandard frame) refl (m .setup) (typed .setup) }
+  stored-typed m typed stores = record { latest = typed .latest; setup = by (toStandard frame) refl }
     where
       number : wordNumber frame ≡ groupWords frame
       number = eqb-true _ _ (and-eq-true-iff (eqb (wordNumber frame) (groupWords frame)) _ .0 (write-when .legal m frame .0 (stores .1) .2) .0)
 
-      by : (t : Bool) → toStandard frame ≡ t → (s : Setup) → SetupTyped s → SetupTyped (replacedIn s frame)
-      by true e s k = rw e (record { standard = values-typed 16 (number ∙ ap (λ (t : Bool). cond t 16 24) e); output = k .output })
-      by false e s k = rw e (record { standard = k .standard; output = values-typed 24 (number ∙ ap (λ (t : Bool). cond t 16 24) e) })
+      by : (t : Bool) → toStandard frame ≡ t → SetupTyped (replacedIn (m .setup) frame)
+      by true e = rw e (record { standard = values-typed 16 (number ∙ ap (λ (t : Bool). cond t 16 24) e); output = typed .setup .output })
+      by false e = rw e (record { standard = typed .setup .standard; output = values-typed 24 (number ∙ ap (λ (t : Bool). cond t 16 24) e) })
 
   kept-typed : (m : Meter) (b : List ℕ) (n : Meter) → Typed m → (n ≡ m) ⊎ (Heeds m frame b × Stores m frame × (n ≡ storedOf m frame)) → Typed n
   kept-typed m b n typed (inl e) = subst (λ (x : Meter). Typed x) (sym e) typed

@@ -44,6 +44,7 @@ module _ (m : Meter) (which : ℕ) where
   unfolding wrapValues
   wrap-at = each (λ (e : Energy). wrapOf (meterT m) (e .wh)) (energiesOf m) which _ (ap (λ (n : ℕ). n / 100000000) (zero-div _))
 
+-- each of the four, of counters within limits
 four-within : (c : Counters) → countersOk c ≡ true → ((energyOk (c .active .positive) ≡ true) × (energyOk (c .active .negative) ≡ true)) × ((energyOk (c .reactive .positive) ≡ true) × (energyOk (c .reactive .negative) ≡ true))
 four-within c h =
     let k = counter-parts c h in
