@@ -187,7 +187,7 @@ module _ (m : Meter) (frame b : List ℕ) where
   refused (for-all bytes n h z g e) reason r = apart (λ z. omega arith) (heard-as e r)
   refused (for-one bytes n a g e) reason r = apart (λ z. omega arith) (heard-as e r)
 
-  unheeded : View m frame b → silence (m .address) frame ≡ true → (boardOf m frame b .handled .meter ≡ m) × (boardOf m frame b .buffer ≡ b)
+  unheeded : View m frame b → silence (m .given .address) frame ≡ true → (boardOf m frame b .handled .meter ≡ m) × (boardOf m frame b .buffer ≡ b)
   unheeded (out h e) q = (ap (λ (o : Outcome). o .handled .meter) e, ap (λ (o : Outcome). o .buffer) e)
   unheeded (short h k e) q = (ap (λ (o : Outcome). o .handled .meter) e, ap (λ (o : Outcome). o .buffer) e)
   unheeded (unheard h k s e) q = (ap (λ (o : Outcome). o .handled .meter) e, ap (λ (o : Outcome). o .buffer) e)

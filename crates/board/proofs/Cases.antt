@@ -33,11 +33,11 @@ module _ (m : Meter) (frame buffer : List ℕ) where
   unfolding boardOf
   board-2 h b = rw (h, b) refl
 
-  pub board-silent : meterOk m ≡ true → ltb (length buffer) 256 ≡ false → silence (m .address) frame ≡ true → silentOf m buffer ≡ boardOf m frame buffer
+  pub board-silent : meterOk m ≡ true → ltb (length buffer) 256 ≡ false → silence (m .given .address) frame ≡ true → silentOf m buffer ≡ boardOf m frame buffer
   unfolding boardOf
   board-silent h b s = rw (h, b, s) refl
 
-  pub board-obeys : meterOk m ≡ true → ltb (length buffer) 256 ≡ false → silence (m .address) frame ≡ false → obeyedOf m frame buffer ≡ boardOf m frame buffer
+  pub board-obeys : meterOk m ≡ true → ltb (length buffer) 256 ≡ false → silence (m .given .address) frame ≡ false → obeyedOf m frame buffer ≡ boardOf m frame buffer
   unfolding boardOf
   board-obeys h b s = rw (h, b, s) refl
 

@@ -79,17 +79,17 @@ module _ (m : Meter) (frame b : List ℕ) where
 pub data View (m : Meter) (frame b : List ℕ) : Type 0 where
   out : meterOk m ≡ false → boardOf m frame b ≡ refusedOf MeterOutOfLimits m b → View m frame b
   short : meterOk m ≡ true → length b < 256 → boardOf m frame b ≡ refusedOf BufferShort m b → View m frame b
-  unheard : meterOk m ≡ true → 256 ≤ length b → silence (m .address) frame ≡ true → boardOf m frame b ≡ silentOf m b → View m frame b
+  unheard : meterOk m ≡ true → 256 ≤ length b → silence (m .given .address) frame ≡ true → boardOf m frame b ≡ silentOf m b → View m frame b
   for-all : (bytes : List ℕ) (n : Meter) → Heeds m frame b → addressOf frame ≡ 0 → Gives m frame bytes n → boardOf m frame b ≡ silentOf n b → View m frame b
   for-one : (bytes : List ℕ) (n : Meter) → Answers m frame b → Gives m frame bytes n → boardOf m frame b ≡ sentOf bytes n b → View m frame b
 
 pub view : (m : Meter) (frame b : List ℕ) → View m frame b
-view m frame b = by-tests (meterOk m) (ltb (length b) 256) (silence (m .address) frame) (eqb (addressOf frame) 0) refl refl refl refl
+view m frame b = by-tests (meterOk m) (ltb (length b) 256) (silence (m .given .address) frame) (eqb (addressOf frame) 0) refl refl refl refl
   where
     g : Given m frame b
     g = given m frame b
 
-    by-tests : (a s q z : Bool) → meterOk m ≡ a → ltb (length b) 256 ≡ s → silence (m .address) frame ≡ q → eqb (addressOf frame) 0 ≡ z → View m frame b
+    by-tests : (a s q z : Bool) → meterOk m ≡ a → ltb (length b) 256 ≡ s → silence (m .given .address) frame ≡ q → eqb (addressOf frame) 0 ≡ z → View m frame b
     by-tests false s q z h k i j = out h (sym (board-1 m frame b h))
     by-tests true true q z h k i j = short h (ltb-true _ _ k) (sym (board-2 m frame b h k))
     by-tests true false true z h k i j = unheard h (ltb-false _ _ k) i (sym (board-silent m frame b h k i))

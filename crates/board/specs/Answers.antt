@@ -30,7 +30,7 @@ use Rattle.board.specs.Board.{silentOf, sentOf, boardOf}
 pub record Heeds (m : Meter) (frame buffer : List ℕ) : Type 0 where
   pub within : meterOk m ≡ true
   pub room : 256 ≤ length buffer
-  pub heard : silence (m .address) frame ≡ false
+  pub heard : silence (m .given .address) frame ≡ false
 
 -- and the frame is for this meter alone
 pub record Answers (m : Meter) (frame buffer : List ℕ) : Type 0 where
@@ -51,7 +51,7 @@ WriteErrs code m frame = (isWrite frame ≡ true) × (writtenOf m frame .verdict
 
 -- 2. Silence; and address 0 has it always
 abbrev pub Quiet : Meter → List ℕ → Type 0
-Quiet m frame = (silence (m .address) frame ≡ true) ⊎ (addressOf frame ≡ 0)
+Quiet m frame = (silence (m .given .address) frame ≡ true) ⊎ (addressOf frame ≡ 0)
 
 -- a write that is legal
 abbrev pub Stores : Meter → List ℕ → Type 0
@@ -102,7 +102,7 @@ pub record Untouched : Type 0 where
       (m : Meter) (frame b : List ℕ) (reason : Refusal) → boardOf m frame b .handled .reply ≡ Refused reason →
       (boardOf m frame b .handled .meter ≡ m) × (boardOf m frame b .buffer ≡ b)
   pub unheard :
-      (m : Meter) (frame b : List ℕ) → silence (m .address) frame ≡ true →
+      (m : Meter) (frame b : List ℕ) → silence (m .given .address) frame ≡ true →
       (boardOf m frame b .handled .meter ≡ m) × (boardOf m frame b .buffer ≡ b)
   pub silent : (m : Meter) (frame b : List ℕ) → boardOf m frame b .handled .reply ≡ Silent → boardOf m frame b .buffer ≡ b
   pub beyond :

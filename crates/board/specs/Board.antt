@@ -68,6 +68,6 @@ boardOf m frame buffer =
     cond (not (meterOk m)) (refusedOf MeterOutOfLimits m buffer)
     (cond (ltb (length buffer) 256) (refusedOf BufferShort m buffer)
     -- 2. Silence
-    (cond (silence (m .address) frame) (silentOf m buffer)
+    (cond (silence (m .given .address) frame) (silentOf m buffer)
     -- 3. to 5.
     (obeyedOf m frame buffer)))

@@ -36,7 +36,7 @@ pub fn handle(meter: Meter, frame: &[u8], buffer: &mut [u8]) -> Handled
     if buffer.len() < modbus::FRAME_MOST {
         return with(meter, Reply::Refused(Refusal::BufferShort));
     }
-    if modbus::silence(meter.address, frame) {
+    if modbus::silence(meter.given.address, frame) {
         return with(meter, Reply::Silent);
     }
     obey(meter, frame, buffer)
@@ -51,7 +51,7 @@ fn with(meter: Meter, reply: Reply) -> Handled
 // The function of a frame that the meter heeds. Only a write does anything when it is for all meters.
 fn obey(meter: Meter, frame: &[u8], buffer: &mut [u8]) -> Handled
     requires { ⌜ meterOk meter ≡ true ⌝ }
-    requires { ⌜ silence (meter .address) (now frame) ≡ false ⌝ }
+    requires { ⌜ silence (meter .given .address) (now frame) ≡ false ⌝ }
     requires { ⌜ 256 ≤ length (now buffer) ⌝ }
     ensures { λ r. ⌜ Allowed (obeyedOf meter (now (frame .entry)) (now (buffer .entry))) r (now (buffer .exit)) ⌝ }
 {
@@ -73,7 +73,7 @@ fn obey(meter: Meter, frame: &[u8], buffer: &mut [u8]) -> Handled
 }
 
 fn write(meter: Meter, frame: &[u8], buffer: &mut [u8]) -> Handled
-    requires { ⌜ silence (meter .address) (now frame) ≡ false ⌝ }
+    requires { ⌜ silence (meter .given .address) (now frame) ≡ false ⌝ }
     requires { ⌜ isWrite (now frame) ≡ true ⌝ }
     requires { ⌜ 256 ≤ length (now buffer) ⌝ }
     ensures { λ r. ⌜ Allowed (obeyedOf meter (now (frame .entry)) (now (buffer .entry))) r (now (buffer .exit)) ⌝ }

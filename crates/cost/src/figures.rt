@@ -25,7 +25,7 @@ pub fn counted() -> u64 {
     sample.p = p;
     sample.q = q;
     let m = after(new.meter, sample);
-    m.active.positive.wh.0 / 2 + shown(m) as u64
+    m.counters.active.positive.wh.0 / 2 + shown(m) as u64
 }
 
 fn after(m: Meter, sample: Sample) -> Meter {

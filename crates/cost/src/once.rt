@@ -12,5 +12,5 @@ pub fn each() -> u64 {
     crc::put(&mut frame, 254);
     let host = eight::of(&frame) as u64;
     let said = readings::value(collector::read(&frame, &frame, ratios, 0));
-    said ^ host ^ answered.meter.active.positive.wh.0
+    said ^ host ^ answered.meter.counters.active.positive.wh.0
 }

@@ -6,7 +6,6 @@ use mathlib.Core.List.{[], map}
 use Prim.Native.Nat.{ℕ, _/_, _%_, _≤_, _<_}
 use native.Mathlib.Omega.{arith}
 use lib.ListN.{getD}
-use Rattle.ratio.specs.declared.Ratios.{Ratios}
 use Rattle.counts.specs.declared.WattHours.{WattHours}
 use Rattle.ratio.specs.Ratios.{ratiosOk, tOf}
 use Rattle.ratio.specs.Steps.{stepOf}
@@ -18,10 +17,11 @@ use Rattle.reading.specs.declared.Quantity.the-variants as read
 use Rattle.reading.specs.declared.Answer.the-variants.{Reading}
 use Rattle.collector.specs.Collector.{collectorOf}
 use Rattle.meter.specs.declared.energies.Energy.{Energy}
+use Rattle.meter.specs.declared.given.Given.{Given}
 use Rattle.meter.specs.declared.Meter.{Meter}
-use Rattle.meter.specs.Energies.{valueOf}
-use Rattle.meter.specs.Meters.{noEnergy, meterT, meterOk, newOf, energiesOf, energyAt}
-use Rattle.meter.proofs.Parts.{energy-rest, meter-parts}
+use Rattle.meter.specs.Energies.{noEnergy, valueOf}
+use Rattle.meter.specs.Meters.{meterT, meterOk, newOf, energiesOf, energyAt}
+use Rattle.meter.proofs.Parts.{energy-rest, own-ratios}
 use Rattle.meter.proofs.Sums.{new-zero}
 use Rattle.meter.proofs.Answers.{made-within, new-blank}
 use Rattle.registers.proofs.Values.{energy-within, energy-most}
@@ -78,8 +78,7 @@ module _ (h : History) (e : ℕ) (four : e < 4) where
 
   record Moment (m : Meter) : Type 0 where
     pub within : meterOk m ≡ true
-    pub address : m .address ≡ h .address
-    pub ratios : m .ratios ≡ h .ratios
+    pub given : m .given ≡ record { address = h .address; ratios = h .ratios }
     pub value : valueOf (energyAt e m) ≡ exactAt e h
 
   then : Moment (sooner h)
@@ -87,16 +86,14 @@ module _ (h : History) (e : ℕ) (four : e < 4) where
       let blank = new-blank (h .address) (h .ratios) in
       record {
         within = after-events .within first (h .events) (made-within (h .address) (h .ratios) (h .made));
-        address = after-events .address first (h .events) ∙ ap (λ (m : Meter). m .address) blank;
-        ratios = after-events .ratios first (h .events) ∙ ap (λ (m : Meter). m .ratios) blank;
+        given = after-events .given first (h .events) ∙ ap (λ (m : Meter). m .given) blank;
         value = omega (arith, after-events .grows e first (h .events), new-zero e (h .address) (h .ratios));
       }
 
   last : Moment (later h)
   last = record {
     within = after-events .within (sooner h) (h .between) (then .within);
-    address = after-events .address (sooner h) (h .between) ∙ then .address;
-    ratios = after-events .ratios (sooner h) (h .between) ∙ then .ratios;
+    given = after-events .given (sooner h) (h .between) ∙ then .given;
     value = omega (arith, after-events .grows e (sooner h) (h .between), idle-adds e (sooner h) (h .between) (h .idle), then .value);
   }
 
@@ -110,12 +107,12 @@ module _ (h : History) (e : ℕ) (four : e < 4) where
         ap (λ (x : ℕ). record { 0 = x }) n
 
     same-t : meterT m ≡ t
-    same-t = ap tOf (now .ratios)
+    same-t = ap (λ (g : Given). tOf (g .ratios)) (now .given)
 
     polled : {q : ℕ} (p : Poll (h .address) q) → Shows m q → collected (h .ratios) m p ≡ Reading (meaningOf m q)
     polled p shows =
-        let meets : Meets m (p .request) (p .buffer) = record { within = now .within; room = p .room; own = now .address ∙ sym (p .own) } in
-        ap (λ (r : Ratios). collectorOf (p .request) (replyTo m (p .request) (p .buffer)) r (p .index)) (sym (now .ratios))
+        let meets : Meets m (p .request) (p .buffer) = record { within = now .within; room = p .room; own = ap (λ (g : Given). g .address) (now .given) ∙ sym (p .own) } in
+        ap (λ (g : Given). collectorOf (p .request) (replyTo m (p .request) (p .buffer)) (g .ratios) (p .index)) (sym (now .given))
         ∙ collects m (p .request) (p .buffer) meets (p .asks) (p .index) (p .below) (rw (p .shows) shows)
         ∙ ap (λ (x : ℕ). Reading (meaningOf m x)) (p .shows)
 
@@ -137,7 +134,7 @@ module _ (h : History) (e : ℕ) (four : e < 4) where
   -- ---- joined
 
   ratios-ok : ratiosOk (h .ratios) ≡ true
-  ratios-ok = ap ratiosOk (sym (then .ratios)) ∙ meter-parts (sooner h) (then .within) .ratios
+  ratios-ok = ap (λ (g : Given). ratiosOk (g .ratios)) (sym (then .given)) ∙ own-ratios (sooner h) (then .within)
 
   register-read : (m n : Meter) → Moment m → Moment n → (r : Poll (h .address) (energyCount e)) (w : Poll (h .address) (wrap e)) → RegisterRead h e (collected (h .ratios) m r) (collected (h .ratios) n w)
   register-read m n now thereafter r w = record {

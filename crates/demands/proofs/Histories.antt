@@ -5,9 +5,9 @@ use mathlib.Core.Bool.{Bool, true, false, cond}
 use mathlib.Core.List.{List, [], _∷_}
 use Prim.Native.Nat.{ℕ, _+_}
 use native.Mathlib.Omega.{arith}
-use Rattle.modbus.specs.Frame.{valuesOf}
 use Rattle.modbus.proofs.Frames.{neither}
 use Rattle.meter.specs.declared.samples.Sample.{Sample}
+use Rattle.meter.specs.declared.groups.Setup.{Setup}
 use Rattle.meter.specs.declared.Meter.{Meter}
 use Rattle.meter.specs.Samples.{sampleOk}
 use Rattle.meter.specs.Energies.{valueOf}
@@ -17,7 +17,7 @@ use Rattle.meter.specs.Carried.{carriesFor}
 use Rattle.meter.proofs.Cases.{chosen}
 use Rattle.meter.proofs.Sums.{after-adds}
 use Rattle.meter.proofs.Answers.{sample-within}
-use Rattle.store.specs.Writes.{toStandard, storedOf}
+use Rattle.store.specs.Writes.{replacedIn, storedOf}
 use Rattle.board.specs.Board.{boardOf}
 use Rattle.board.specs.Answers.{Heeds, Stores}
 use Rattle.board.proofs.Answers.{untouched, frame-within}
@@ -26,17 +26,10 @@ use Rattle.demands.specs.Histories.{Event, afterEvent, eventAdds, isTake
 -- ---- one event
 
 -- what sees no setup words sees nothing of a frame
-module _ {A : Type 0} (see : Meter → A) (blind : (m : Meter) (standard output : List ℕ) → see (withSetup m standard output) ≡ see m) where
-  stored-unseen : (m : Meter) (frame : List ℕ) → see (storedOf m frame) ≡ see m
-  stored-unseen m frame = by (toStandard frame)
-    where
-      by : (t : Bool) → see (cond t (withSetup m (valuesOf frame) (m .output)) (withSetup m (m .standard) (valuesOf frame))) ≡ see m
-      by true = blind m (valuesOf frame) (m .output)
-      by false = blind m (m .standard) (valuesOf frame)
-
+module _ {A : Type 0} (see : Meter → A) (blind : (m : Meter) (setup : Setup) → see (withSetup m setup) ≡ see m) where
   altered-unseen : (m : Meter) (frame b : List ℕ) (n : Meter) → (n ≡ m) ⊎ (Heeds m frame b × Stores m frame × (n ≡ storedOf m frame)) → see n ≡ see m
   altered-unseen m frame b n (inl e) = ap see e
-  altered-unseen m frame b n (inr s) = ap see (s .2) ∙ stored-unseen m frame
+  altered-unseen m frame b n (inr s) = ap see (s .2) ∙ blind m (replacedIn (m .setup) frame)
 
   frame-unseen : (m : Meter) (frame b : List ℕ) → see (boardOf m frame b .handled .meter) ≡ see m
   frame-unseen m frame b = altered-unseen m frame b _ (untouched .altered m frame b)
@@ -59,7 +52,7 @@ event-within m (Event.frame bytes b) h = frame-within m bytes b h
 
 event-adds : (e : ℕ) (m : Meter) (x : Event) → valueOf (energyAt e (afterEvent m x)) ≡ valueOf (energyAt e m) + eventAdds e m x
 event-adds e m (Event.sample s) = after-adds e m s
-event-adds e m (Event.frame bytes b) = frame-unseen (λ m. valueOf (energyAt e m)) (λ m s o. refl) m bytes b ∙ omega arith
+event-adds e m (Event.frame bytes b) = frame-unseen (λ m. valueOf (energyAt e m)) (λ m s. refl) m bytes b ∙ omega arith
 
 -- ---- and so for any
 
@@ -69,7 +62,7 @@ within m [] h = h
 within m (x ∷ xs) h = within (afterEvent m x) xs (event-within m x h)
 
 -- what neither sees is the same after any
-module _ {A : Type 0} (see : Meter → A) (frames : (m : Meter) (standard output : List ℕ) → see (withSetup m standard output) ≡ see m) (samples : (m : Meter) (s : Sample) → see (nextOf m s) ≡ see m) where
+module _ {A : Type 0} (see : Meter → A) (frames : (m : Meter) (setup : Setup) → see (withSetup m setup) ≡ see m) (samples : (m : Meter) (s : Sample) → see (nextOf m s) ≡ see m) where
   event-unseen : (m : Meter) (x : Event) → see (afterEvent m x) ≡ see m
   event-unseen m (Event.sample s) = sample-unseen see samples m s
   event-unseen m (Event.frame bytes b) = frame-unseen see frames m bytes b
@@ -87,8 +80,7 @@ grows e m (x ∷ xs) = omega (arith, grows e (afterEvent m x) xs, event-adds e m
 pub after-events : AfterEvents
 after-events = record {
   within = within;
-  address = all-unseen (λ m. m .address) (λ m s o. refl) (λ m s. refl);
-  ratios = all-unseen (λ m. m .ratios) (λ m s o. refl) (λ m s. refl);
+  given = all-unseen (λ m. m .given) (λ m s. refl) (λ m s. refl);
   grows = grows;
 }
 

@@ -11,6 +11,7 @@ use Rattle.directory.specs.Table.{directory}
 use Rattle.reading.specs.declared.Answer.the-variants.{Reading}
 use Rattle.collector.specs.Collector.{collectorOf}
 use Rattle.meter.specs.declared.Answer.the-variants.{Accepted}
+use Rattle.meter.specs.declared.given.Given.{Given}
 use Rattle.meter.specs.declared.Meter.{Meter}
 use Rattle.meter.specs.Samples.{noSample}
 use Rattle.meter.specs.Meters.{newOf}
@@ -63,10 +64,10 @@ polls : (address : ℕ) (r : Ratios) (xs : List Event) → newOf address r .answ
 polls address r xs made typed q p =
     let first = newOf address r .meter in
     let m = afterAll first xs in
-    let same : m .ratios ≡ r = after-events .ratios first xs ∙ ap (λ (x : Meter). x .ratios) (new-blank address r) in
-    let own : m .address ≡ address = after-events .address first xs ∙ ap (λ (x : Meter). x .address) (new-blank address r) in
+    let same : m .given ≡ record { address = address; ratios = r } = after-events .given first xs ∙ ap (λ (x : Meter). x .given) (new-blank address r) in
+    let own = ap (λ (g : Given). g .address) same in
     let meets : Meets m (p .request) (p .buffer) = record { within = after-events .within first xs (made-within address r made); room = p .room; own = own ∙ sym (p .own) } in
-    ap (λ (x : Ratios). collectorOf (p .request) (replyTo m (p .request) (p .buffer)) x (p .index)) (sym same)
+    ap (λ (g : Given). collectorOf (p .request) (replyTo m (p .request) (p .buffer)) (g .ratios) (p .index)) (sym same)
     ∙ round-trip .reads m (p .request) (p .buffer) (p .index) (types-kept .events first xs (types-kept .new address r) typed) meets (p .asks) (p .below)
     ∙ ap (λ (x : ℕ). Reading (meaningOf m x)) (p .shows)
 

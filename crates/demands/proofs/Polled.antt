@@ -20,7 +20,7 @@ use Rattle.directory.proofs.Rules.{directory-ruled, directory-rules}
 use Rattle.modbus.specs.Frame.{wordNumber, startOf, silence}
 use Rattle.modbus.specs.Read.{readIn}
 use Rattle.modbus.proofs.Judged.{read-when}
-use Rattle.meter.proofs.Parts.{meter-parts}
+use Rattle.meter.proofs.Parts.{own-address}
 use Rattle.collector.specs.Collector.{heard}
 use Rattle.collector.proofs.Requests.{heard-so}
 use Rattle.demands.specs.Polled.{requestFor, EveryItemPolled}
@@ -69,6 +69,6 @@ every-item-polled = record {
   hears = λ address i some l. hears address i l some;
   items = items;
   data-sent = λ m i b ok l room.
-      with-data .same m (requestFor (m .address) (getD directory i none)) b (record { within = ok; room = room; own = refl }) .0
-      (record { hears = hears (m .address) i l (meter-parts m ok .address); first = i; count = 1; items = items (m .address) i l });
+      with-data .same m (requestFor (m .given .address) (getD directory i none)) b (record { within = ok; room = room; own = refl }) .0
+      (record { hears = hears (m .given .address) i l (own-address m ok); first = i; count = 1; items = items (m .given .address) i l });
 }

@@ -30,7 +30,7 @@ use Rattle.modbus.proofs.Frames.{shaped-length}
 use Rattle.modbus.proofs.Judged.{legal-read}
 use Rattle.meter.specs.declared.Meter.{Meter}
 use Rattle.meter.specs.Meters.{meterT}
-use Rattle.meter.proofs.Parts.{meter-parts}
+use Rattle.meter.proofs.Parts.{own-ratios}
 use Rattle.store.proofs.Verdicts.{write-when}
 use Rattle.registers.specs.Shown.{shownOf}
 use Rattle.registers.proofs.Widths.{Shows, in-room, typed-shows}
@@ -106,14 +106,14 @@ module _ (m : Meter) (request b : List ℕ) (meets : Meets m request b) (a : Ask
       let bs = addressOf request ∷ functionOf request ∷ 2 * wordNumber request ∷ itemsSent m its in
       length-sealed bs ∙ omega (arith, length-items m its, legal-read (a .items) .sends)
 
-  ratios : ratiosOk (m .ratios) ≡ true
-  ratios = meter-parts m (meets .within) .ratios
+  ratios : ratiosOk (m .given .ratios) ≡ true
+  ratios = own-ratios m (meets .within)
 
   -- the function of the reply is the request's
   function : functionOf reply ≡ 0x03
   function = eqb-true (functionOf request) 0x03 (h .read)
 
-  pub fits : Fits request reply (m .ratios)
+  pub fits : Fits request reply (m .given .ratios)
   fits =
       let other : isReadError reply ≡ false = rw function refl in
       let same : isRead reply ≡ true = rw function refl in
@@ -165,22 +165,22 @@ module _ (m : Meter) (request b : List ℕ) (meets : Meets m request b) (a : Ask
         ∙ ap (λ (l : List ℕ). valueAt (it .words) l (length before)) whole
         ∙ read-back .between (it .words) v before (after ++ crc) (fitting-words fit)
 
-    reads : Shows m (it .quantity) → collectorOf request reply (m .ratios) index ≡ Reading (meaningOf m (it .quantity))
+    reads : Shows m (it .quantity) → collectorOf request reply (m .given .ratios) index ≡ Reading (meaningOf m (it .quantity))
     unfolding fits
     reads fit =
-        exactly-when .rows request reply (m .ratios) index .reading (meaningOf m (it .quantity)) .1
+        exactly-when .rows request reply (m .given .ratios) index .reading (meaningOf m (it .quantity)) .1
         (record {
           holds = record { fits = fits; below = below };
           reading = ap (readingOf (meterT m) it) (value-back fit) ∙ item-read m (meets .within) (a .first + index) known fit;
         })
 
     -- through the bytes of the reply
-    pub collects : Shows m (it .quantity) → collectorOf request (replyTo m request b) (m .ratios) index ≡ Reading (meaningOf m (it .quantity))
-    collects fit = ap (λ (x : List ℕ). collectorOf request x (m .ratios) index) replies ∙ reads fit
+    pub collects : Shows m (it .quantity) → collectorOf request (replyTo m request b) (m .given .ratios) index ≡ Reading (meaningOf m (it .quantity))
+    collects fit = ap (λ (x : List ℕ). collectorOf request x (m .given .ratios) index) replies ∙ reads fit
 
-  pub past : (index : ℕ) → a .count ≤ index → Comes request reply (m .ratios) index (refusedBy 12)
+  pub past : (index : ℕ) → a .count ≤ index → Comes request reply (m .given .ratios) index (refusedBy 12)
   unfolding fits
-  past index over = exactly-when .rows request reply (m .ratios) index .row-12 .1 (record { fits = fits; past = over })
+  past index over = exactly-when .rows request reply (m .given .ratios) index .row-12 .1 (record { fits = fits; past = over })
 
 -- ---- an error reply to such a request
 
@@ -256,7 +256,7 @@ with-data = record { same = λ m request b meets. (λ a. ap isRead (replies m re
 pub round-trip : RoundTrip
 round-trip = record {
   reads = λ m request b index typed meets a below. collects m request b meets a index below (typed-shows m typed (meets .within) (a .first + index) (known m request b meets a index below));
-  past = λ m request b index meets a over. ap (λ (reply : List ℕ). told (collectorOf request reply (m .ratios) index)) (replies m request b meets a) ∙ past m request b meets a index over;
+  past = λ m request b index meets a over. ap (λ (reply : List ℕ). told (collectorOf request reply (m .given .ratios) index)) (replies m request b meets a) ∙ past m request b meets a index over;
   error = error-given;
   other = λ m request b reply r index meets ok h. exactly-when .rows request reply r index .row-7 .1 (ok, λ a. false≢true (sym h ∙ with-data .same m request b meets .0 a));
 }

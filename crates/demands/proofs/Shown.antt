@@ -118,10 +118,10 @@ module _ (m : Meter) (h : meterOk m ≡ true) where
   signed-read : ReadKind m 4
   unfolding signedValues signedMeanings powerAt
   signed-read w b =
-      let p = powerAt (m .latest) w in
+      let p = powerAt m w in
       ap (λ (v : ℕ). Reading (read.SignedPower (signedIn 2 v))) (signed-at m w)
       ∙ ap (λ (s : Signed). Reading (read.SignedPower s)) (read-signed 2 (p .negative) (p .magnitude / 100) (powers-fit .signed t (p .magnitude) (power-most m w h)))
-      ∙ ap Reading (sym (mapped (λ (p : Signed). read.SignedPower (cut 100 p)) (powersOf (m .latest)) _ (read.Plain 0) w b))
+      ∙ ap Reading (sym (mapped (λ (p : Signed). read.SignedPower (cut 100 p)) (powersOf m) _ (read.Plain 0) w b))
 
   counts-read : ReadKind m 5
   unfolding countValues countMeanings
@@ -151,7 +151,7 @@ module _ (m : Meter) (h : meterOk m ≡ true) where
 
   signs-read : ReadKind m 10
   unfolding signValues signMeanings
-  signs-read w b = limited read.Sign (signValues m) w _ b (rw (sign-at m w) (sign-most (powerAt (m .latest) w .negative)))
+  signs-read w b = limited read.Sign (signValues m) w _ b (rw (sign-at m w) (sign-most (powerAt m w .negative)))
 
   sector-read : ReadKind m 11
   sector-read = few m 11 1 (possible (le-leb _ _ (parts .sector)), tt)

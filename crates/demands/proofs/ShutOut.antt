@@ -22,11 +22,11 @@ use Rattle.meter.specs.declared.Answer.the-variants.{Accepted}
 use Rattle.meter.specs.declared.samples.Powers.{Powers}
 use Rattle.meter.specs.declared.samples.Sample.{Sample}
 use Rattle.meter.specs.declared.Meter.{Meter}
-use Rattle.meter.specs.Samples.{threeOf, powersOk, sampleOk}
-use Rattle.meter.specs.Energies.{withPower, withinTop}
+use Rattle.meter.specs.Samples.{inForce, powersOk, sampleOk}
+use Rattle.meter.specs.Energies.{noEnergies, withPower, withinTop}
 use Rattle.meter.specs.Meters.{meterT, meterOk, blankOf, newOf}
 use Rattle.meter.specs.After.{nextOf, meterWithinTop, afterOf}
-use Rattle.meter.proofs.Parts.{powers-sum, sample-parts}
+use Rattle.meter.proofs.Parts.{in-force-most, sample-parts}
 use Rattle.meter.proofs.Answers.{made-within, new-blank, sample-answers}
 use Rattle.demands.specs.Histories.{Event, afterAll, exactOf}
 use Rattle.demands.specs.Demand3.{History, Poll, Bounds, RegisterRead}
@@ -67,11 +67,11 @@ unfolding exactOf
 none-exact = refl
 
 one-exact : exactOf posEa bare one ≡ 3600000
-unfolding exactOf afterOf newOf meterOk sampleOk powerLimit groupOk wordOk
+unfolding exactOf afterOf newOf meterOk sampleOk inForce powerLimit groupOk wordOk
 one-exact = refl
 
 two-exact : exactOf posEa bare two ≡ 7200000
-unfolding exactOf afterOf newOf meterOk sampleOk powerLimit groupOk wordOk
+unfolding exactOf afterOf newOf meterOk sampleOk inForce powerLimit groupOk wordOk
 two-exact = refl
 
 -- the step of such a meter
@@ -102,12 +102,12 @@ made-up t exact count wrap top bounds =
     (omega (arith, same, top), omega (arith, same, top))
 
 -- one second of a power within its limit is far below the top
-first-within : (address : ℕ) (r : Ratios) (p : Powers) → powersOk (tOf r) p ≡ true → withinTop (withPower (blankOf address r .active) (threeOf p)) ≡ true
-first-within address r p h =
-    let most = le-trans (powers-sum (tOf r) p h) (power-laws .limit (tOf r)) in
-    let above = above-le (threeOf p) most in
-    let below = below-le (threeOf p) most in
-    λ i. le-leb _ topWh (fits (aboveOf (threeOf p)) above) i && le-leb _ topWh (fits (belowOf (threeOf p)) below) i
+first-within : (t : ℕ) (p : Powers) → powersOk t p ≡ true → withinTop (withPower noEnergies (inForce p)) ≡ true
+first-within t p h =
+    let most = le-trans (in-force-most t p h) (power-laws .limit t) in
+    let above = above-le (inForce p) most in
+    let below = below-le (inForce p) most in
+    λ i. le-leb _ topWh (fits (aboveOf (inForce p)) above) i && le-leb _ topWh (fits (belowOf (inForce p)) below) i
   where
     fits : (x : ℕ) → x ≤ topPower → 0 + (0 + x) / 360000 ≤ topWh
     fits x h = omega (arith, h)
@@ -116,7 +116,7 @@ takes : (address : ℕ) (r : Ratios) (s : Sample) → newOf address r .answer �
 takes address r s made h =
     let blank = new-blank address r in
     let parts = sample-parts (tOf r) s h in
-    let top : meterWithinTop (nextOf (blankOf address r) s) ≡ true = λ i. first-within address r (s .p) (parts .p) i && first-within address r (s .q) (parts .q) i in
+    let top : meterWithinTop (nextOf (blankOf address r) s) ≡ true = λ i. first-within (tOf r) (s .p) (parts .p) i && first-within (tOf r) (s .q) (parts .q) i in
     sample-answers .accepted (newOf address r .meter) s .1
     (made-within address r made, ap (λ (m : Meter). sampleOk (meterT m) s) blank ∙ h, ap (λ (m : Meter). meterWithinTop (nextOf m s)) blank ∙ top)
 

@@ -14,13 +14,14 @@ use Rattle.modbus.proofs.Rows.{length-words}
 use Rattle.meter.specs.declared.samples.Sample.{Sample}
 use Rattle.meter.specs.declared.Meter.{Meter}
 use Rattle.meter.specs.Samples.{sampleOk, noSample}
+use Rattle.meter.specs.Groups.{noSetup}
 use Rattle.meter.specs.Meters.{meterT, meterOk, blankOf, newOf}
 use Rattle.meter.specs.After.{nextOf, meterWithinTop, afterOf}
 use Rattle.meter.proofs.Cases.{chosen}
 use Rattle.meter.proofs.Answers.{new-blank}
-use Rattle.store.specs.Writes.{toStandard, groupWords, storedOf}
+use Rattle.store.specs.Writes.{toStandard, groupWords, replacedIn, storedOf}
 use Rattle.store.proofs.Verdicts.{write-when}
-use Rattle.registers.specs.Cases.{SampleTyped, WordsTyped, Typed}
+use Rattle.registers.specs.Cases.{SampleTyped, WordsTyped, SetupTyped, Typed}
 use Rattle.board.specs.Answers.{Heeds, Stores}
 use Rattle.board.proofs.Answers.{untouched}
 use Rattle.demands.specs.Histories.{Event, afterEvent, afterAll, EventTyped, AllTyped, TypesKept}
@@ -36,12 +37,14 @@ zeros (suc n) b (suc i) h = zeros n b i h
 pub blank-sample : SampleTyped noSample
 blank-sample = record { voltages = refl; currents = refl; voltage = λ i. zeros 6 (256 ^ 4) i (omega arith); current = λ i. zeros 4 (256 ^ 4) i (omega arith); frequency = omega arith }
 
-blank-typed : (address : ℕ) (r : Ratios) → Typed (blankOf address r)
-blank-typed address r = record {
-  latest = blank-sample;
+blank-setup : SetupTyped noSetup
+blank-setup = record {
   standard = record { long = refl; word = λ i. zeros 16 (256 ^ 2) i (omega arith) };
   output = record { long = refl; word = λ i. zeros 24 (256 ^ 2) i (omega arith) };
 }
+
+blank-typed : (address : ℕ) (r : Ratios) → Typed (blankOf address r)
+blank-typed address r = record { latest = blank-sample; setup = blank-setup }
 
 new : (address : ℕ) (r : Ratios) → Typed (newOf address r .meter)
 new address r = subst (λ (m : Meter). Typed m) (sym (new-blank address r)) (blank-typed address r)
@@ -49,7 +52,7 @@ new address r = subst (λ (m : Meter). Typed m) (sym (new-blank address r)) (bla
 -- ---- a sample
 
 next-typed : (m : Meter) (s : Sample) → Typed m → SampleTyped s → Typed (nextOf m s)
-next-typed m s typed fits = record { latest = fits; standard = typed .standard; output = typed .output }
+next-typed m s typed fits = record { latest = fits; setup = typed .setup }
 
 picked-typed : (a b c : Bool) (m n : Meter) → Typed m → Typed n → Typed (chosen a b c m n .meter)
 picked-typed true true true m n x y = y
@@ -74,14 +77,14 @@ module _ (frame : List ℕ) (bytes : (i : ℕ) → getD frame i 0 < 256) where
   values-typed n e = record { long = length-words (wordNumber frame) frame 7 ∙ e; word = words-fit (wordNumber frame) 7 }
 
   stored-typed : (m : Meter) → Typed m → Stores m frame → Typed (storedOf m frame)
-  stored-typed m typed stores = by (toStandard frame) refl
+  stored-typed m typed stores = record { latest = typed .latest; setup = by (toStandard frame) refl }
     where
       number : wordNumber frame ≡ groupWords frame
       number = eqb-true _ _ (and-eq-true-iff (eqb (wordNumber frame) (groupWords frame)) _ .0 (write-when .legal m frame .0 (stores .1) .2) .0)
 
-      by : (t : Bool) → toStandard frame ≡ t → Typed (storedOf m frame)
-      by true e = rw e (record { latest = typed .latest; standard = values-typed 16 (number ∙ ap (λ (t : Bool). cond t 16 24) e); output = typed .output })
-      by false e = rw e (record { latest = typed .latest; standard = typed .standard; output = values-typed 24 (number ∙ ap (λ (t : Bool). cond t 16 24) e) })
+      by : (t : Bool) → toStandard frame ≡ t → SetupTyped (replacedIn (m .setup) frame)
+      by true e = rw e (record { standard = values-typed 16 (number ∙ ap (λ (t : Bool). cond t 16 24) e); output = typed .setup .output })
+      by false e = rw e (record { standard = typed .setup .standard; output = values-typed 24 (number ∙ ap (λ (t : Bool). cond t 16 24) e) })
 
   kept-typed : (m : Meter) (b : List ℕ) (n : Meter) → Typed m → (n ≡ m) ⊎ (Heeds m frame b × Stores m frame × (n ≡ storedOf m frame)) → Typed n
   kept-typed m b n typed (inl e) = subst (λ (x : Meter). Typed x) (sym e) typed

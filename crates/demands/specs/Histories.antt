@@ -65,10 +65,9 @@ pub record TypesKept : Type 0 where
   pub event : (m : Meter) (x : Event) → Typed m → EventTyped x → Typed (afterEvent m x)
   pub events : (m : Meter) (xs : List Event) → Typed m → AllTyped xs → Typed (afterAll m xs)
 
--- STATEMENT: after any events a record is still within limits, its address and ratios are as they were, and each energy, Wh ×
--- 360,000 + remainder, has grown by the exact energy of the samples accepted
+-- STATEMENT: after any events a record is still within limits, what it was given (address and ratios) is as it was, and each energy,
+-- Wh × 360,000 + remainder, has grown by the exact energy of the samples accepted
 pub record AfterEvents : Type 0 where
   pub within : (m : Meter) (xs : List Event) → meterOk m ≡ true → meterOk (afterAll m xs) ≡ true
-  pub address : (m : Meter) (xs : List Event) → afterAll m xs .address ≡ m .address
-  pub ratios : (m : Meter) (xs : List Event) → afterAll m xs .ratios ≡ m .ratios
+  pub given : (m : Meter) (xs : List Event) → afterAll m xs .given ≡ m .given
   pub grows : (e : ℕ) (m : Meter) (xs : List Event) → valueOf (energyAt e (afterAll m xs)) ≡ valueOf (energyAt e m) + exactOf e m xs

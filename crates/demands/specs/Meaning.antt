@@ -30,12 +30,12 @@ cut n s = record { negative = s .negative && ltb 0 (s .magnitude / n); magnitude
 -- P, Q and S in hundredths, as their registers have them; S at 0x1530 in whole VA
 unfoldable pub powerMeanings : Meter → List Quantity
 powerMeanings m =
-    map (λ (p : Signed). read.Power (roundedPower (meterT m) (p .magnitude))) (powersOf (m .latest)) ++
+    map (λ (p : Signed). read.Power (roundedPower (meterT m) (p .magnitude))) (powersOf m) ++
     (read.Power (roundedPower (meterT m) (m .latest .s)) ∷ read.Power (m .latest .s / 100 * 100) ∷ [])
 
 -- signed power in whole units
 unfoldable pub signedMeanings : Meter → List Quantity
-signedMeanings m = map (λ (p : Signed). read.SignedPower (cut 100 p)) (powersOf (m .latest))
+signedMeanings m = map (λ (p : Signed). read.SignedPower (cut 100 p)) (powersOf m)
 
 -- energy count with step and Wh
 unfoldable pub countMeanings : Meter → List Quantity
@@ -63,7 +63,7 @@ factorMeanings f = read.Factor (times 10 (cut 10 f)) ∷ read.Factor f ∷ []
 
 -- sign
 unfoldable pub signMeanings : Meter → List Quantity
-signMeanings m = map (λ (p : Signed). read.Sign (signWord (p .negative))) (powersOf (m .latest))
+signMeanings m = map (λ (p : Signed). read.Sign (signWord (p .negative))) (powersOf m)
 
 -- kind by kind in the order of paper 01's list of readings, from kind 1 on
 abbrev pub meanings : Meter → List (List Quantity)
@@ -81,8 +81,8 @@ meanings m =
     signMeanings m ∷
     (read.Sector (m .latest .sector) ∷ []) ∷
     (read.Frequency (m .latest .frequency) ∷ []) ∷
-    (read.Kta (m .ratios .kta) ∷ []) ∷
-    (read.Ktv (m .ratios .ktv) ∷ []) ∷
+    (read.Kta (m .given .ratios .kta) ∷ []) ∷
+    (read.Ktv (m .given .ratios .ktv) ∷ []) ∷
     (read.Sequence (m .latest .sequence) ∷ []) ∷
     map (λ (v : ℕ). read.Plain v) (plainValues m) ∷
     []

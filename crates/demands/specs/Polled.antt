@@ -27,4 +27,4 @@ pub record EveryItemPolled : Type 0 where
   pub items : (address i : ℕ) → i < length directory → readIn directory (requestFor address (getD directory i none)) ≡ Items i 1
   pub data-sent :
       (m : Meter) (i : ℕ) (b : List ℕ) → meterOk m ≡ true → i < length directory → 256 ≤ length b →
-      isRead (replyTo m (requestFor (m .address) (getD directory i none)) b) ≡ true
+      isRead (replyTo m (requestFor (m .given .address) (getD directory i none)) b) ≡ true

@@ -36,7 +36,7 @@ replyTo m request b = replyIn (boardOf m request b .handled .reply) (boardOf m r
 pub record Meets (m : Meter) (request b : List ℕ) : Type 0 where
   pub within : meterOk m ≡ true
   pub room : 256 ≤ length b
-  pub own : m .address ≡ addressOf request
+  pub own : m .given .address ≡ addressOf request
 
 -- STATEMENT: the requests that the collector takes for a read that a meter of that own address answers with data are just those
 -- that every such meter answers with data, a reply of function 0x03
@@ -49,10 +49,10 @@ pub record WithData : Type 0 where
 pub record RoundTrip : Type 0 where
   pub reads :
       (m : Meter) (request b : List ℕ) (index : ℕ) → Typed m → Meets m request b → (a : Asks request) → index < a .count →
-      collectorOf request (replyTo m request b) (m .ratios) index ≡ Reading (meaningOf m (itemAt a index .quantity))
+      collectorOf request (replyTo m request b) (m .given .ratios) index ≡ Reading (meaningOf m (itemAt a index .quantity))
   pub past :
       (m : Meter) (request b : List ℕ) (index : ℕ) → Meets m request b → (a : Asks request) → a .count ≤ index →
-      Comes request (replyTo m request b) (m .ratios) index (refusedBy 12)
+      Comes request (replyTo m request b) (m .given .ratios) index (refusedBy 12)
   pub error :
       (request : List ℕ) (r : Ratios) (index code : ℕ) → Asked request r → 1 ≤ code → code ≤ 3 →
       Comes request (errorBytes request code) r index (errorBy code)

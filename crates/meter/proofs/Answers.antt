@@ -2,7 +2,6 @@
 use mathlib.Core.Path.{_≡_, refl, sym, ap, _∙_}
 use mathlib.Core.Logic.{_↔_, _⊎_, inl, inr}
 use mathlib.Core.Bool.{Bool, true, false, _&&_, cond, and-true, not, false≢true, and-eq-true-iff}
-use mathlib.Core.List.{List}
 use Prim.Native.Nat.{ℕ, _+_, _%_, zero, suc, zero-le}
 use native.Mathlib.Omega.{arith}
 use lib.Dec.{leb, eqb}
@@ -20,15 +19,18 @@ use Rattle.setup.specs.Ranges.{groupOk, wordOk}
 use Rattle.meter.specs.declared.samples.Sample.{Sample}
 use Rattle.meter.specs.declared.energies.Energy.{Energy}
 use Rattle.meter.specs.declared.energies.Energies.{Energies}
+use Rattle.meter.specs.declared.energies.Counters.{Counters}
+use Rattle.meter.specs.declared.groups.Setup.{Setup}
 use Rattle.meter.specs.declared.Answer.the-variants.{Accepted, Refused}
 use Rattle.meter.specs.declared.Answered.{Answered}
 use Rattle.meter.specs.declared.Meter.{Meter}
-use Rattle.meter.specs.Samples.{threeOf, sampleOk, noSample}
-use Rattle.meter.specs.Energies.{energyOk, energiesOk, plusOf, withPower, withinTop}
-use Rattle.meter.specs.Meters.{meterT, setupWithin, meterOk, blankOf, refusedOf, acceptedOf, newOf, withSetup}
+use Rattle.meter.specs.Samples.{inForce, sampleOk, noSample}
+use Rattle.meter.specs.Energies.{energyOk, energiesOk, countersOk, plusOf, withPower, withPowers, withinTop, countersWithinTop}
+use Rattle.meter.specs.Groups.{setupOk}
+use Rattle.meter.specs.Meters.{meterT, meterOk, blankOf, refusedOf, acceptedOf, newOf, withSetup}
 use Rattle.meter.specs.After.{nextOf, meterWithinTop, afterOf}
 use Rattle.meter.specs.Answers.{answerTold, NewAnswers, SampleAnswers, SetupIdle}
-use Rattle.meter.proofs.Parts.{meter-parts}
+use Rattle.meter.proofs.Parts.{meter-parts, groups-within}
 use Rattle.meter.proofs.Cases.{chosen, after-accepted}
 use Rattle.meter.proofs.Outcomes.{by-number, firstOf, first-fails, second-fails, third-fails, none-fails, only-these, not-accepted}
 
@@ -87,14 +89,13 @@ plus-within e x = rw (le-leb ((e .remainder + x) % 360000) 359999 (omega arith))
 powered-within : (es : Energies) (power : Signed) → energiesOk (withPower es power) ≡ withinTop (withPower es power)
 powered-within es power = λ i. plus-within (es .positive) (aboveOf power) i && plus-within (es .negative) (belowOf power) i
 
+counted-within : (c : Counters) (p q : Signed) → countersOk (withPowers c p q) ≡ countersWithinTop (withPowers c p q)
+counted-within c p q = λ i. powered-within (c .active) p i && powered-within (c .reactive) q i
+
 next-within : (m : Meter) (s : Sample) → meterOk m ≡ true → sampleOk (meterT m) s ≡ true → meterWithinTop (nextOf m s) ≡ true → meterOk (nextOf m s) ≡ true
-unfolding meterOk
 next-within m s hm hs ht =
     let k = meter-parts m hm in
-    let t = and-eq-true-iff (withinTop (nextOf m s .active)) (withinTop (nextOf m s .reactive)) .0 ht in
-    let p = powered-within (m .active) (threeOf (s .p)) ∙ t .0 in
-    let q = powered-within (m .reactive) (threeOf (s .q)) ∙ t .1 in
-    λ i. le-leb 1 (m .address) (k .address) i && k .ratios i && p i && q i && hs i && k .setup i
+    groups-within (nextOf m s) (record { given = k .given; counters = counted-within (m .counters) (inForce (s .p)) (inForce (s .q)) ∙ ht; latest = hs; setup = k .setup })
 
 kept : (a b c : Bool) (m n : Meter) → meterOk m ≡ true → (a ≡ true → b ≡ true → c ≡ true → meterOk n ≡ true) → meterOk (chosen a b c m n .meter) ≡ true
 kept true true true m n h k = k refl refl refl
@@ -113,7 +114,7 @@ blank-sample : (t : ℕ) → sampleOk t noSample ≡ true
 unfolding sampleOk
 blank-sample t = rw (le-leb 0 (powerLimit t) zero-le) refl
 
-trues : (b : Bool) → (b && true && true && true && true) ≡ b
+trues : (b : Bool) → (b && true && true && true) ≡ b
 trues true = refl
 trues false = refl
 
@@ -195,25 +196,24 @@ new-answers = record {
 
 -- ---- setup words have no effect
 
-module _ (m : Meter) (standard output : List ℕ) where
+module _ (m : Meter) (setup : Setup) where
   abbrev other : Meter
-  other = withSetup m standard output
+  other = withSetup m setup
 
-  pub other-within : meterOk m ≡ true → setupWithin other ≡ true → meterOk other ≡ true
-  unfolding meterOk
+  pub other-within : meterOk m ≡ true → setupOk setup ≡ true → meterOk other ≡ true
   other-within hm hs =
       let k = meter-parts m hm in
-      λ i. le-leb 1 (m .address) (k .address) i && k .ratios i && k .active i && k .reactive i && k .latest i && hs i
+      groups-within other (record { given = k .given; counters = k .counters; latest = k .latest; setup = hs })
 
   abbrev changed : Answered → Answered
-  changed r = record { answer = r .answer; meter = withSetup (r .meter) standard output }
+  changed r = record { answer = r .answer; meter = withSetup (r .meter) setup }
 
-  same : (b c : Bool) (n : Meter) → chosen true b c other (withSetup n standard output) ≡ changed (chosen true b c m n)
+  same : (b c : Bool) (n : Meter) → chosen true b c other (withSetup n setup) ≡ changed (chosen true b c m n)
   same true true n = refl
   same true false n = refl
   same false c n = refl
 
-  idle : (s : Sample) → meterOk m ≡ true → setupWithin other ≡ true → afterOf other s ≡ changed (afterOf m s)
+  idle : (s : Sample) → meterOk m ≡ true → setupOk setup ≡ true → afterOf other s ≡ changed (afterOf m s)
   unfolding afterOf
   idle s hm hs = rw (hm, other-within hm hs) (same (sampleOk (meterT m) s) (meterWithinTop (nextOf m s)) (nextOf m s))
 

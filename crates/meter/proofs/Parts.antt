@@ -15,10 +15,12 @@ use Rattle.meter.specs.declared.samples.Powers.{Powers}
 use Rattle.meter.specs.declared.samples.Sample.{Sample}
 use Rattle.meter.specs.declared.energies.Energy.{Energy}
 use Rattle.meter.specs.declared.energies.Energies.{Energies}
+use Rattle.meter.specs.declared.energies.Counters.{Counters}
 use Rattle.meter.specs.declared.Meter.{Meter}
-use Rattle.meter.specs.Samples.{threeOf, factorOf, phasesOk, powersOk, sampleOk}
-use Rattle.meter.specs.Energies.{energyOk, energiesOk, ZeroToNeither}
-use Rattle.meter.specs.Meters.{meterT, setupWithin, meterOk}
+use Rattle.meter.specs.Samples.{threeOf, inForce, factorOf, phasesOk, powersOk, sampleOk}
+use Rattle.meter.specs.Energies.{energyOk, energiesOk, countersOk, ZeroToNeither}
+use Rattle.meter.specs.Groups.{setupOk}
+use Rattle.meter.specs.Meters.{meterT, givenOk, meterOk}
 use Rattle.meter.specs.Fits.{Held, Room}
 
 -- a number that is 1 or 2
@@ -44,12 +46,15 @@ phases-held t p h =
     let limit = power-laws .limit t in
     record { one = le-trans (l .0) limit; two = le-trans (l .1) limit; three = le-trans (l .2) limit }
 
+-- phases of powers within the limit are within it
 module _ (t : ℕ) (p : Powers) (h : powersOk t p ≡ true) where
   pub powers-phases : phasesOk (powerLimit t) p ≡ true
   powers-phases = and-eq-true-iff (phasesOk (powerLimit t) p) (leb (threeOf p .magnitude) (powerLimit t)) .0 h .0
 
-  pub powers-sum : threeOf p .magnitude ≤ powerLimit t
-  powers-sum = leb-true _ _ (and-eq-true-iff (phasesOk (powerLimit t) p) (leb (threeOf p .magnitude) (powerLimit t)) .0 h .1)
+  -- and so is the sum in force
+  pub in-force-most : inForce p .magnitude ≤ powerLimit t
+  unfolding inForce
+  in-force-most = leb-true _ _ (and-eq-true-iff (phasesOk (powerLimit t) p) (leb (threeOf p .magnitude) (powerLimit t)) .0 h .1)
 
 -- the test of phases and sum, by what was found of the phases
 pub powers-by : (t : ℕ) (p : Powers) {found : Bool} → phasesOk (powerLimit t) p ≡ found → powersOk t p ≡ (found && leb (threeOf p .magnitude) (powerLimit t))
@@ -85,39 +90,43 @@ sample-parts t s h =
       sequence = h5 .1;
     }
 
+-- a record within limits, group by group
 pub record MeterParts (m : Meter) : Type 0 where
-  pub address : 1 ≤ m .address
-  pub ratios : ratiosOk (m .ratios) ≡ true
-  pub active : energiesOk (m .active) ≡ true
-  pub reactive : energiesOk (m .reactive) ≡ true
+  pub given : givenOk (m .given) ≡ true
+  pub counters : countersOk (m .counters) ≡ true
   pub latest : sampleOk (meterT m) (m .latest) ≡ true
-  pub setup : setupWithin m ≡ true
+  pub setup : setupOk (m .setup) ≡ true
 
 pub meter-parts : (m : Meter) → meterOk m ≡ true → MeterParts m
 unfolding meterOk
 meter-parts m h =
-    let a = leb 1 (m .address) in
-    let r = ratiosOk (m .ratios) in
-    let p = energiesOk (m .active) in
-    let q = energiesOk (m .reactive) in
+    let g = givenOk (m .given) in
+    let k = countersOk (m .counters) in
     let s = sampleOk (meterT m) (m .latest) in
-    let h5 = and-eq-true-iff (a && r && p && q && s) (setupWithin m) .0 h in
-    let h4 = and-eq-true-iff (a && r && p && q) s .0 (h5 .0) in
-    let h3 = and-eq-true-iff (a && r && p) q .0 (h4 .0) in
-    let h2 = and-eq-true-iff (a && r) p .0 (h3 .0) in
-    let h1 = and-eq-true-iff a r .0 (h2 .0) in
-    record {
-      address = leb-true _ _ (h1 .0);
-      ratios = h1 .1;
-      active = h2 .1;
-      reactive = h3 .1;
-      latest = h4 .1;
-      setup = h5 .1;
-    }
+    let h3 = and-eq-true-iff (g && k && s) (setupOk (m .setup)) .0 h in
+    let h2 = and-eq-true-iff (g && k) s .0 (h3 .0) in
+    let h1 = and-eq-true-iff g k .0 (h2 .0) in
+    record { given = h1 .0; counters = h1 .1; latest = h2 .1; setup = h3 .1 }
 
--- its ratios, one by one
-pub ratio-parts : (m : Meter) → meterOk m ≡ true → (ktaOk (m .ratios .kta) ≡ true) × (ktvOk (m .ratios .ktv) ≡ true)
-ratio-parts m h = and-eq-true-iff (ktaOk (m .ratios .kta)) (ktvOk (m .ratios .ktv)) .0 (meter-parts m h .ratios)
+-- and back: a record whose groups are within limits is
+pub groups-within : (m : Meter) → MeterParts m → meterOk m ≡ true
+unfolding meterOk
+groups-within m k = λ i. k .given i && k .counters i && k .latest i && k .setup i
+
+-- what it was given
+module _ (m : Meter) (h : meterOk m ≡ true) where
+  pub own-address : 1 ≤ m .given .address
+  own-address = leb-true _ _ (and-eq-true-iff (leb 1 (m .given .address)) (ratiosOk (m .given .ratios)) .0 (meter-parts m h .given) .0)
+
+  pub own-ratios : ratiosOk (m .given .ratios) ≡ true
+  own-ratios = and-eq-true-iff (leb 1 (m .given .address)) (ratiosOk (m .given .ratios)) .0 (meter-parts m h .given) .1
+
+  pub ratio-parts : (ktaOk (m .given .ratios .kta) ≡ true) × (ktvOk (m .given .ratios .ktv) ≡ true)
+  ratio-parts = and-eq-true-iff (ktaOk (m .given .ratios .kta)) (ktvOk (m .given .ratios .ktv)) .0 own-ratios
+
+-- its energies
+pub counter-parts : (c : Counters) → countersOk c ≡ true → (energiesOk (c .active) ≡ true) × (energiesOk (c .reactive) ≡ true)
+counter-parts c = and-eq-true-iff (energiesOk (c .active)) (energiesOk (c .reactive)) .0
 
 -- an energy within limits is at most its top
 pub energy-top : (e : Energy) → energyOk e ≡ true → e .wh .0 ≤ topWh
@@ -136,13 +145,13 @@ zero-to-neither = record {
 }
 
 -- a power within the limit has room in energies within limits
-pub energies-room : (es : Energies) (t : ℕ) (p : Powers) → energiesOk es ≡ true → powersOk t p ≡ true → Room es (threeOf p)
+pub energies-room : (es : Energies) (t : ℕ) (p : Powers) → energiesOk es ≡ true → powersOk t p ≡ true → Room es (inForce p)
 energies-room es t p he hp =
     let e = and-eq-true-iff (energyOk (es .positive)) (energyOk (es .negative)) .0 he in
     record {
       positive = energy-top (es .positive) (e .0);
       negative = energy-top (es .negative) (e .1);
-      most = le-trans (powers-sum t p hp) (power-laws .limit t);
+      most = le-trans (in-force-most t p hp) (power-laws .limit t);
     }
 
 -- a record and a sample within limits can be counted
@@ -153,8 +162,8 @@ module _ (m : Meter) (s : Sample) (hm : meterOk m ≡ true) (hs : sampleOk (mete
   pub held-q : Held (s .q)
   held-q = phases-held (meterT m) (s .q) (powers-phases (meterT m) (s .q) (sample-parts (meterT m) s hs .q))
 
-  pub room-active : Room (m .active) (threeOf (s .p))
-  room-active = energies-room (m .active) (meterT m) (s .p) (meter-parts m hm .active) (sample-parts (meterT m) s hs .p)
-
-  pub room-reactive : Room (m .reactive) (threeOf (s .q))
-  room-reactive = energies-room (m .reactive) (meterT m) (s .q) (meter-parts m hm .reactive) (sample-parts (meterT m) s hs .q)
+  pub room : Room (m .counters .active) (inForce (s .p)) × Room (m .counters .reactive) (inForce (s .q))
+  room =
+      let k = counter-parts (m .counters) (meter-parts m hm .counters) in
+      let x = sample-parts (meterT m) s hs in
+      (energies-room (m .counters .active) (meterT m) (s .p) (k .0) (x .p), energies-room (m .counters .reactive) (meterT m) (s .q) (k .1) (x .q))

@@ -21,10 +21,10 @@ plus-value e x = omega arith
 
 -- each energy takes what is carried for it
 next-adds : (e : ℕ) (m : Meter) (s : Sample) → valueOf (energyAt e (nextOf m s)) ≡ valueOf (energyAt e m) + carriesFor e s
-next-adds zero m s = plus-value (m .active .positive) (carriesFor 0 s)
-next-adds (suc zero) m s = plus-value (m .active .negative) (carriesFor 1 s)
-next-adds (suc (suc zero)) m s = plus-value (m .reactive .positive) (carriesFor 2 s)
-next-adds (suc (suc (suc zero))) m s = plus-value (m .reactive .negative) (carriesFor 3 s)
+next-adds zero m s = plus-value (m .counters .active .positive) (carriesFor 0 s)
+next-adds (suc zero) m s = plus-value (m .counters .active .negative) (carriesFor 1 s)
+next-adds (suc (suc zero)) m s = plus-value (m .counters .reactive .positive) (carriesFor 2 s)
+next-adds (suc (suc (suc zero))) m s = plus-value (m .counters .reactive .negative) (carriesFor 3 s)
 next-adds (suc (suc (suc (suc e)))) m s = refl
 
 -- one sample, by its tests

@@ -1,29 +1,20 @@
 -- Paper 01, "The meter's record": a sample covers one second.
-use mathlib.Core.Bool.{Bool, _&&_, cond}
+use mathlib.Core.Bool.{Bool, cond}
 use Rattle.refusal.specs.declared.Refusal.the-variants.{MeterOutOfLimits, SampleOutOfLimits, EnergyPastTop}
 use Rattle.meter.specs.declared.samples.Sample.{Sample}
 use Rattle.meter.specs.declared.Meter.{Meter}
 use Rattle.meter.specs.declared.Answered.{Answered}
-use Rattle.meter.specs.Samples.{threeOf, sampleOk}
-use Rattle.meter.specs.Energies.{withPower, withinTop}
-use Rattle.meter.specs.Meters.{meterT, meterOk, refusedOf, acceptedOf}
+use Rattle.meter.specs.Samples.{inForce, sampleOk}
+use Rattle.meter.specs.Energies.{withPowers, countersWithinTop}
+use Rattle.meter.specs.Meters.{meterT, meterOk, withCounters, withLatest, refusedOf, acceptedOf}
 
 -- when accepted, it becomes the latest; 3-phase P is added to +Ea or -Ea; likewise Q
 abbrev pub nextOf : Meter → Sample → Meter
-nextOf m s =
-    record {
-      address = m .address;
-      ratios = m .ratios;
-      active = withPower (m .active) (threeOf (s .p));
-      reactive = withPower (m .reactive) (threeOf (s .q));
-      latest = s;
-      standard = m .standard;
-      output = m .output;
-    }
+nextOf m s = withLatest (withCounters m (withPowers (m .counters) (inForce (s .p)) (inForce (s .q)))) s
 
 -- none of the four energies is past its top
 abbrev pub meterWithinTop : Meter → Bool
-meterWithinTop m = withinTop (m .active) && withinTop (m .reactive)
+meterWithinTop m = countersWithinTop (m .counters)
 
 -- a sample: 1, then 5, then 6, the meter unchanged; else the next meter
 unfoldable pub afterOf : Meter → Sample → Answered

@@ -9,11 +9,13 @@ use Rattle.refusal.specs.Numbers.{refusalNumber, refusedBy}
 use Rattle.ratio.specs.declared.Ratios.{Ratios}
 use Rattle.ratio.specs.Ratios.{ratiosOk}
 use Rattle.meter.specs.declared.samples.Sample.{Sample}
+use Rattle.meter.specs.declared.groups.Setup.{Setup}
 use Rattle.meter.specs.declared.Answer.{Answer}
 use Rattle.meter.specs.declared.Answer.the-variants.{Accepted, Refused}
 use Rattle.meter.specs.declared.Meter.{Meter}
 use Rattle.meter.specs.Samples.{sampleOk}
-use Rattle.meter.specs.Meters.{meterT, setupWithin, meterOk, blankOf, withSetup, newOf}
+use Rattle.meter.specs.Groups.{setupOk}
+use Rattle.meter.specs.Meters.{meterT, meterOk, blankOf, withSetup, newOf}
 use Rattle.meter.specs.After.{nextOf, meterWithinTop, afterOf}
 
 -- an answer in numbers: 0 for accepted; the number of the refusal
@@ -50,6 +52,5 @@ pub record SampleAnswers : Type 0 where
 -- STATEMENT: setup words are kept and have no effect on a sample: with others in range, answer and measurements are the same
 pub record SetupIdle : Type 0 where
   pub sample :
-      (m : Meter) (standard output : List ℕ) (s : Sample) → meterOk m ≡ true → setupWithin (withSetup m standard output) ≡ true →
-      afterOf (withSetup m standard output) s ≡
-      record { answer = afterOf m s .answer; meter = withSetup (afterOf m s .meter) standard output }
+      (m : Meter) (setup : Setup) (s : Sample) → meterOk m ≡ true → setupOk setup ≡ true →
+      afterOf (withSetup m setup) s ≡ record { answer = afterOf m s .answer; meter = withSetup (afterOf m s .meter) setup }

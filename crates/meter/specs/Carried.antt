@@ -8,12 +8,12 @@ use Rattle.meter.specs.declared.samples.Sample.{Sample}
 use Rattle.meter.specs.declared.Answer.{Answer}
 use Rattle.meter.specs.declared.Answer.the-variants.{Accepted, Refused}
 use Rattle.meter.specs.declared.Meter.{Meter}
-use Rattle.meter.specs.Samples.{threeOf}
+use Rattle.meter.specs.Samples.{inForce}
 use Rattle.meter.specs.After.{afterOf}
 
 -- what a sample carries for each of them, in hundredths of a watt-second
 abbrev pub carriesOf : Sample → List ℕ
-carriesOf s = aboveOf (threeOf (s .p)) ∷ belowOf (threeOf (s .p)) ∷ aboveOf (threeOf (s .q)) ∷ belowOf (threeOf (s .q)) ∷ []
+carriesOf s = aboveOf (inForce (s .p)) ∷ belowOf (inForce (s .p)) ∷ aboveOf (inForce (s .q)) ∷ belowOf (inForce (s .q)) ∷ []
 
 -- what it carries for the one of a number
 abbrev pub carriesFor : ℕ → Sample → ℕ

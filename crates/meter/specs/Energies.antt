@@ -8,6 +8,7 @@ use Rattle.signed.specs.Signs.{aboveOf, belowOf}
 use Rattle.counts.specs.Energies.{topWh}
 use Rattle.meter.specs.declared.energies.Energy.{Energy}
 use Rattle.meter.specs.declared.energies.Energies.{Energies}
+use Rattle.meter.specs.declared.energies.Counters.{Counters}
 
 -- whole Wh, 0 to 65,535,999,999,999, with a remainder of 0 to 359,999
 abbrev pub energyOk : Energy → Bool
@@ -16,6 +17,22 @@ energyOk e = leb (e .wh .0) topWh && leb (e .remainder) 359999
 -- and so each of two
 abbrev pub energiesOk : Energies → Bool
 energiesOk es = energyOk (es .positive) && energyOk (es .negative)
+
+-- and so each of the four
+abbrev pub countersOk : Counters → Bool
+countersOk c = energiesOk (c .active) && energiesOk (c .reactive)
+
+-- an energy whose counter and remainder are 0
+abbrev pub noEnergy : Energy
+noEnergy = record { wh = record { 0 = 0 }; remainder = 0 }
+
+-- two of them
+abbrev pub noEnergies : Energies
+noEnergies = record { positive = noEnergy; negative = noEnergy }
+
+-- counters and remainders 0
+abbrev pub noCounters : Counters
+noCounters = record { active = noEnergies; reactive = noEnergies }
 
 -- an energy in hundredths of a watt-second: 1 Wh is 360,000 of these
 abbrev pub valueOf : Energy → ℕ
@@ -30,9 +47,17 @@ plusOf e power =
 abbrev pub withPower : Energies → Signed → Energies
 withPower es power = record { positive = plusOf (es .positive) (aboveOf power); negative = plusOf (es .negative) (belowOf power) }
 
+-- 3-phase P is added to +Ea or -Ea; likewise Q
+abbrev pub withPowers : Counters → Signed → Signed → Counters
+withPowers c p q = record { active = withPower (c .active) p; reactive = withPower (c .reactive) q }
+
 -- neither energy is past its top
 abbrev pub withinTop : Energies → Bool
 withinTop es = leb (es .positive .wh .0) topWh && leb (es .negative .wh .0) topWh
+
+-- none of the four is
+abbrev pub countersWithinTop : Counters → Bool
+countersWithinTop c = withinTop (c .active) && withinTop (c .reactive)
 
 -- STATEMENT: zero to neither: an energy within limits with 0 added is itself
 pub record ZeroToNeither : Type 0 where

@@ -1,5 +1,6 @@
 pub mod Samples
 pub mod Energies
+pub mod Groups
 pub mod Meters
 pub mod After
 pub mod Carried

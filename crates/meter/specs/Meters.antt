@@ -3,80 +3,69 @@ use Prim.Native.Nat.{ℕ}
 use mathlib.Core.List.{List, [], _∷_}
 use mathlib.Core.Bool.{Bool, _&&_, cond}
 use lib.Dec.{leb, eqb}
-use lib.ListN.{getD, replicate}
+use lib.ListN.{getD}
 use Rattle.refusal.specs.declared.Refusal.{Refusal}
 use Rattle.refusal.specs.declared.Refusal.the-variants.{RatioOutOfLimits, OwnAddressZero}
 use Rattle.ratio.specs.declared.Ratios.{Ratios}
 use Rattle.ratio.specs.Ratios.{ratiosOk, tOf}
-use Rattle.setup.specs.Ranges.{groupOk}
 use Rattle.meter.specs.declared.energies.Energy.{Energy}
-use Rattle.meter.specs.declared.energies.Energies.{Energies}
+use Rattle.meter.specs.declared.energies.Counters.{Counters}
+use Rattle.meter.specs.declared.samples.Sample.{Sample}
+use Rattle.meter.specs.declared.given.Given.{Given}
+use Rattle.meter.specs.declared.groups.Setup.{Setup}
 use Rattle.meter.specs.declared.Meter.{Meter}
 use Rattle.meter.specs.declared.Answer.the-variants.{Accepted, Refused}
 use Rattle.meter.specs.declared.Answered.{Answered}
-use Rattle.meter.specs.Energies.{energiesOk}
+use Rattle.meter.specs.Energies.{noEnergy, countersOk, noCounters}
 use Rattle.meter.specs.Samples.{sampleOk, noSample}
+use Rattle.meter.specs.Groups.{setupOk, noSetup}
 
 -- T of a meter
 abbrev pub meterT : Meter → ℕ
-meterT m = tOf (m .ratios)
+meterT m = tOf (m .given .ratios)
 
--- setup groups of 16 words (0x2000) and 24 words (0x2200), each word in its range
-abbrev pub setupWithin : Meter → Bool
-setupWithin m = groupOk 0x2000 (m .standard) && groupOk 0x2200 (m .output)
+-- own address 1 to 255 (it is a byte), and ratios
+abbrev pub givenOk : Given → Bool
+givenOk g = leb 1 (g .address) && ratiosOk (g .ratios)
 
--- a record is within limits: own address 1 to 255 (it is a byte), ratios, four energies, the latest sample at the record's T,
--- setup groups
+-- a record is within limits: own address and ratios, four energies, the latest sample at the record's T, setup groups
 unfoldable pub meterOk : Meter → Bool
-meterOk m =
-    leb 1 (m .address) &&
-    ratiosOk (m .ratios) &&
-    energiesOk (m .active) &&
-    energiesOk (m .reactive) &&
-    sampleOk (meterT m) (m .latest) &&
-    setupWithin m
-
--- an energy whose counter and remainder are 0
-abbrev pub noEnergy : Energy
-noEnergy = record { wh = record { 0 = 0 }; remainder = 0 }
-
--- and two of them
-abbrev noEnergies : Energies
-noEnergies = record { positive = noEnergy; negative = noEnergy }
+meterOk m = givenOk (m .given) && countersOk (m .counters) && sampleOk (meterT m) (m .latest) && setupOk (m .setup)
 
 -- counters and remainders 0, setup words 0, sample 0 except sequence 1
 abbrev pub blankOf : ℕ → Ratios → Meter
 blankOf address ratios =
     record {
-      address = address;
-      ratios = ratios;
-      active = noEnergies;
-      reactive = noEnergies;
+      given = record { address = address; ratios = ratios };
+      counters = noCounters;
       latest = noSample;
-      standard = replicate 16 0;
-      output = replicate 24 0;
+      setup = noSetup;
     }
 
 -- the four energies, in the paper's order: +Ea, -Ea, +Er, -Er
 abbrev pub energiesOf : Meter → List Energy
-energiesOf m = m .active .positive ∷ m .active .negative ∷ m .reactive .positive ∷ m .reactive .negative ∷ []
+energiesOf m =
+    m .counters .active .positive ∷
+    m .counters .active .negative ∷
+    m .counters .reactive .positive ∷
+    m .counters .reactive .negative ∷
+    []
 
 -- the one of a number
 abbrev pub energyAt : ℕ → Meter → Energy
 energyAt e m = getD (energiesOf m) e noEnergy
 
--- a meter with other setup words
-abbrev pub withSetup : Meter → List ℕ → List ℕ → Meter
-withSetup m standard output =
-    record {
-      address = m .address;
-      ratios = m .ratios;
-      active = m .active;
-      reactive = m .reactive;
-      latest = m .latest;
-      standard = standard;
-      output = output;
-    }
+-- a meter with other counters
+abbrev pub withCounters : Meter → Counters → Meter
+withCounters m counters = record { given = m .given; counters = counters; latest = m .latest; setup = m .setup }
+
+-- a meter with another latest sample
+abbrev pub withLatest : Meter → Sample → Meter
+withLatest m sample = record { given = m .given; counters = m .counters; latest = sample; setup = m .setup }
+
+-- a meter with another setup
+abbrev pub withSetup : Meter → Setup → Meter
+withSetup m setup = record { given = m .given; counters = m .counters; latest = m .latest; setup = setup }
 
 -- a refusal returns its number; every record is as before
 abbrev pub refusedOf : Refusal → Meter → Answered

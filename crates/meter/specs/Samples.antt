@@ -11,9 +11,13 @@ use Rattle.meter.specs.declared.samples.Powers.{Powers}
 use Rattle.meter.specs.declared.samples.Factor.{Factor}
 use Rattle.meter.specs.declared.samples.Sample.{Sample}
 
--- 3-phase P and Q are the sums of the phases
+-- 3-phase P and Q are the sums of the phases: the sum of all three phases, which the limits go by
 abbrev pub threeOf : Powers → Signed
 threeOf p = signedOf ((p .l1 +ℤ p .l2) +ℤ p .l3)
+
+-- the sum in force, which everything shown and counted goes by: of all three
+unfoldable pub inForce : Powers → Signed
+inForce p = threeOf p
 
 -- power factor, signed thousandths
 abbrev pub factorOf : Factor → Signed

@@ -1,10 +1,10 @@
-// An energy: whole Wh (varh) and what is left over (paper 01, "The meter's record").
+// The energies: whole Wh (varh) and what is left over (paper 01, "The meter's record").
 ghost use mathlib.Core.Path.{_≡_};
 ghost use Prim.Native.Nat.{_≤_};
 ghost use Rattle.ratio.specs.Powers.{topPower};
 ghost use Rattle.counts.specs.Energies.{topWh};
 ghost use Rattle.meter.specs.Fits.{Room};
-ghost use Rattle.meter.specs.Energies.{energyOk, plusOf, energiesOk, withinTop, withPower};
+ghost use Rattle.meter.specs.Energies.{energyOk, plusOf, energiesOk, withinTop, withPower, noCounters, countersOk, countersWithinTop, withPowers};
 use crate::Meter;
 use counts::WattHours;
 use signed::Signed;
@@ -62,6 +62,55 @@ impl Energies {
         Energies {
             positive: self.positive.plus(power.above()),
             negative: self.negative.plus(power.below()),
+        }
+    }
+}
+
+// What a meter counts: active and reactive energies.
+pub struct Counters {
+    pub active: Energies,
+    pub reactive: Energies,
+}
+
+impl Counters {
+    // The counters of a new meter: every count and every remainder 0.
+    pub(crate) fn none() -> Counters
+        ensures { λ r. ⌜ r ≡ noCounters ⌝ }
+    {
+        let zero = Energy {
+            wh: WattHours(0),
+            remainder: 0,
+        };
+        let both = Energies {
+            positive: zero,
+            negative: zero,
+        };
+        Counters {
+            active: both,
+            reactive: both,
+        }
+    }
+
+    pub(crate) fn within(self) -> bool
+        ensures { λ r. ⌜ r ≡ countersOk self ⌝ }
+    {
+        self.active.within() & self.reactive.within()
+    }
+
+    pub(crate) fn within_top(self) -> bool
+        ensures { λ r. ⌜ r ≡ countersWithinTop self ⌝ }
+    {
+        self.active.within_top() & self.reactive.within_top()
+    }
+
+    // One second of 3-phase P and Q.
+    pub(crate) fn plus(self, p: Signed, q: Signed) -> Counters
+        requires { ⌜ Room (self .active) p × Room (self .reactive) q ⌝ }
+        ensures { λ r. ⌜ r ≡ withPowers self p q ⌝ }
+    {
+        Counters {
+            active: self.active.plus(p),
+            reactive: self.reactive.plus(q),
         }
     }
 }

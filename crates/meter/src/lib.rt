@@ -1,29 +1,27 @@
 // The meter: its record, a new one, and what a sample makes of it (paper 01, "The meter's record").
 pub mod energies;
+pub mod given;
+pub mod groups;
 pub mod samples;
 
 ghost use mathlib.Core.Path.{_≡_};
 ghost use mathlib.Core.Bool.{true};
 ghost use Rattle.meter.specs.Samples.{sampleOk};
-ghost use Rattle.meter.specs.Meters.{meterT, meterOk, setupWithin, blankOf, refusedOf, newOf};
-ghost use Rattle.meter.specs.After.{nextOf, meterWithinTop, afterOf};
-use counts::WattHours;
-use energies::Energies;
-use energies::Energy;
+ghost use Rattle.meter.specs.Meters.{meterT, meterOk, blankOf, refusedOf, newOf};
+ghost use Rattle.meter.specs.After.{nextOf, afterOf};
+use energies::Counters;
+use given::Given;
+use groups::Setup;
 use ratio::Ratios;
 use refusal::Refusal;
 use samples::Sample;
 
+// The record, in groups: each has its own limits, and its own part of a new meter.
 pub struct Meter {
-    // The address that it answers to.
-    pub address: u8,
-    pub ratios: Ratios,
-    pub active: Energies,
-    pub reactive: Energies,
+    pub given: Given,
+    pub counters: Counters,
     pub latest: Sample,
-    // Setup words from 0x2000 and from 0x2200 on. They are kept and alter no measurement.
-    pub standard: [u16; 16],
-    pub output: [u16; 24],
+    pub setup: Setup,
 }
 
 pub enum Answer {
@@ -68,26 +66,15 @@ impl Meter {
         }
     }
 
-    // Counters, remainders and setup words 0.
+    // Each group as it is in a new meter.
     fn blank(address: u8, ratios: Ratios) -> Meter
         ensures { λ r. ⌜ r ≡ blankOf address ratios ⌝ }
     {
-        let zero = Energy {
-            wh: WattHours(0),
-            remainder: 0,
-        };
-        let none = Energies {
-            positive: zero,
-            negative: zero,
-        };
         Meter {
-            address,
-            ratios,
-            active: none,
-            reactive: none,
+            given: Given { address, ratios },
+            counters: Counters::none(),
             latest: Sample::none(),
-            standard: [0u16; 16],
-            output: [0u16; 24],
+            setup: Setup::none(),
         }
     }
 
@@ -104,20 +91,10 @@ impl Meter {
     pub fn within(self) -> bool
         ensures { λ r. ⌜ r ≡ meterOk self ⌝ }
     {
-        (Meter::ADDRESS_LEAST <= self.address)
-            & self.ratios.within()
-            & self.active.within()
-            & self.reactive.within()
-            & self.latest.within(self.ratios.tenths())
-            & self.setup_within()
-    }
-
-    fn setup_within(self) -> bool
-        ensures { λ r. ⌜ r ≡ setupWithin self ⌝ }
-    {
-        let standard = self.standard;
-        let output = self.output;
-        setup::standard_ok(standard) & setup::output_ok(output)
+        self.given.within()
+            & self.counters.within()
+            & self.latest.within(self.given.ratios.tenths())
+            & self.setup.within()
     }
 
     // The meter after a sample of one second.
@@ -127,11 +104,11 @@ impl Meter {
         if !self.within() {
             return self.refused(Refusal::MeterOutOfLimits);
         }
-        if !sample.within(self.ratios.tenths()) {
+        if !sample.within(self.given.ratios.tenths()) {
             return self.refused(Refusal::SampleOutOfLimits);
         }
         let next = self.counted(sample);
-        if !next.within_top() {
+        if !next.counters.within_top() {
             return self.refused(Refusal::EnergyPastTop);
         }
         Answered {
@@ -146,15 +123,8 @@ impl Meter {
         ensures { λ r. ⌜ r ≡ nextOf self sample ⌝ }
     {
         let mut next = self;
-        next.active = self.active.plus(sample.p.three());
-        next.reactive = self.reactive.plus(sample.q.three());
+        next.counters = self.counters.plus(sample.p.in_force(), sample.q.in_force());
         next.latest = sample;
         next
-    }
-
-    fn within_top(self) -> bool
-        ensures { λ r. ⌜ r ≡ meterWithinTop self ⌝ }
-    {
-        self.active.within_top() & self.reactive.within_top()
     }
 }

@@ -1,7 +1,7 @@
 // A second's measurements, as the metering chip hands them over (paper 01, "The meter's record").
 ghost use mathlib.Core.Path.{_≡_};
 ghost use Rattle.meter.specs.Fits.{Held};
-ghost use Rattle.meter.specs.Samples.{threeOf, factorOf, phasesOk, powersOk, sampleOk, noSample};
+ghost use Rattle.meter.specs.Samples.{threeOf, inForce, factorOf, phasesOk, powersOk, sampleOk, noSample};
 use crate::Meter;
 use signed::Signed;
 
@@ -22,15 +22,23 @@ impl Powers {
         (one.magnitude <= limit) & (two.magnitude <= limit) & (three.magnitude <= limit)
     }
 
-    // The 3-phase sum. Nobody else adds phases.
-    pub fn three(self) -> Signed
+    // The sum of all three phases, which the limits go by. Nobody else adds phases.
+    fn three(self) -> Signed
         requires { ⌜ Held self ⌝ }
         ensures { λ r. ⌜ r ≡ threeOf self ⌝ }
     {
         Signed::of(self.l1 + self.l2 + self.l3)
     }
 
-    // Each phase and their sum. Phases beyond the limit are not added: their sum may not fit.
+    // The sum in force, which everything shown and counted goes by: of all three.
+    pub fn in_force(self) -> Signed
+        requires { ⌜ Held self ⌝ }
+        ensures { λ r. ⌜ r ≡ inForce self ⌝ }
+    {
+        self.three()
+    }
+
+    // Each phase and the sum of all three. Phases beyond the limit are not added: their sum may not fit.
     fn within(self, t: u32) -> bool
         ensures { λ r. ⌜ r ≡ powersOk t self ⌝ }
     {

@@ -16,10 +16,11 @@ use Rattle.ratio.specs.Powers.{powerLimit, powerRegister}
 use Rattle.counts.specs.Energies.{topWh, registerOf, wrapOf, lowOf, highOf}
 use Rattle.directory.proofs.ByKind.{kind-is, none-at}
 use Rattle.meter.specs.declared.energies.Energy.{Energy}
+use Rattle.meter.specs.declared.energies.Counters.{Counters}
 use Rattle.meter.specs.declared.Meter.{Meter}
-use Rattle.meter.specs.Energies.{energyOk}
+use Rattle.meter.specs.Energies.{energyOk, countersOk}
 use Rattle.meter.specs.Meters.{meterT, meterOk, energiesOf, energyAt}
-use Rattle.meter.proofs.Parts.{meter-parts, sample-parts, phases-most, powers-phases, powers-sum, energy-top}
+use Rattle.meter.proofs.Parts.{meter-parts, counter-parts, sample-parts, phases-most, powers-phases, in-force-most, energy-top}
 use Rattle.registers.specs.SignedWords.{signedPower}
 use Rattle.registers.specs.Shown.{powersOf, powerAt, powerValues, signedValues, signValues, countValues, lowValues, highValues, wrapValues, plainValues, valuesOf, shownOf}
 
@@ -45,12 +46,18 @@ module _ (m : Meter) (which : ℕ) where
   unfolding wrapValues
   wrap-at = each (λ (e : Energy). wrapOf (meterT m) (e .wh)) (energiesOf m) which _ (ap (λ (n : ℕ). n / 100000000) (zero-div _))
 
+-- each of the four, of counters within limits
+four-within : (c : Counters) → countersOk c ≡ true → ((energyOk (c .active .positive) ≡ true) × (energyOk (c .active .negative) ≡ true)) × ((energyOk (c .reactive .positive) ≡ true) × (energyOk (c .reactive .negative) ≡ true))
+four-within c h =
+    let k = counter-parts c h in
+    (and-eq-true-iff (energyOk (c .active .positive)) (energyOk (c .active .negative)) .0 (k .0), and-eq-true-iff (energyOk (c .reactive .positive)) (energyOk (c .reactive .negative)) .0 (k .1))
+
 -- an energy of a meter within limits is within its own, and at most its top
 pub energy-within : (m : Meter) (which : ℕ) → meterOk m ≡ true → energyOk (energyAt which m) ≡ true
-energy-within m zero h = and-eq-true-iff (energyOk (m .active .positive)) (energyOk (m .active .negative)) .0 (meter-parts m h .active) .0
-energy-within m (suc zero) h = and-eq-true-iff (energyOk (m .active .positive)) (energyOk (m .active .negative)) .0 (meter-parts m h .active) .1
-energy-within m (suc (suc zero)) h = and-eq-true-iff (energyOk (m .reactive .positive)) (energyOk (m .reactive .negative)) .0 (meter-parts m h .reactive) .0
-energy-within m (suc (suc (suc zero))) h = and-eq-true-iff (energyOk (m .reactive .positive)) (energyOk (m .reactive .negative)) .0 (meter-parts m h .reactive) .1
+energy-within m zero h = four-within (m .counters) (meter-parts m h .counters) .0 .0
+energy-within m (suc zero) h = four-within (m .counters) (meter-parts m h .counters) .0 .1
+energy-within m (suc (suc zero)) h = four-within (m .counters) (meter-parts m h .counters) .1 .0
+energy-within m (suc (suc (suc zero))) h = four-within (m .counters) (meter-parts m h .counters) .1 .1
 energy-within m (suc (suc (suc (suc which)))) h = refl
 
 pub energy-most : (m : Meter) (which : ℕ) → meterOk m ≡ true → energyAt which m .wh .0 ≤ topWh
@@ -59,13 +66,13 @@ energy-most m which h = energy-top (energyAt which m) (energy-within m which h)
 -- ---- powers
 
 module _ (m : Meter) (which : ℕ) where
-  pub signed-at : getD (signedValues m) which 0 ≡ signedPower (powerAt (m .latest) which .negative) (powerAt (m .latest) which .magnitude)
+  pub signed-at : getD (signedValues m) which 0 ≡ signedPower (powerAt m which .negative) (powerAt m which .magnitude)
   unfolding signedValues powerAt
-  signed-at = each (λ (p : Signed). signedPower (p .negative) (p .magnitude)) (powersOf (m .latest)) which _ (twos-plain 2 0)
+  signed-at = each (λ (p : Signed). signedPower (p .negative) (p .magnitude)) (powersOf m) which _ (twos-plain 2 0)
 
-  pub sign-at : getD (signValues m) which 0 ≡ signWord (powerAt (m .latest) which .negative)
+  pub sign-at : getD (signValues m) which 0 ≡ signWord (powerAt m which .negative)
   unfolding signValues powerAt
-  sign-at = each (λ (p : Signed). signWord (p .negative)) (powersOf (m .latest)) which _ refl
+  sign-at = each (λ (p : Signed). signWord (p .negative)) (powersOf m) which _ refl
 
 pub power-s : (m : Meter) → getD (powerValues m) 8 0 ≡ powerRegister (meterT m) (m .latest .s)
 unfolding powerValues
@@ -75,7 +82,7 @@ pub power-whole : (m : Meter) → getD (powerValues m) 9 0 ≡ m .latest .s / 10
 unfolding powerValues
 power-whole m = refl
 
-pub power-at : (m : Meter) (which : ℕ) → (which ≡ 8 → ⊥) → (which ≡ 9 → ⊥) → getD (powerValues m) which 0 ≡ powerRegister (meterT m) (powerAt (m .latest) which .magnitude)
+pub power-at : (m : Meter) (which : ℕ) → (which ≡ 8 → ⊥) → (which ≡ 9 → ⊥) → getD (powerValues m) which 0 ≡ powerRegister (meterT m) (powerAt m which .magnitude)
 unfolding powerValues powerAt
 power-at m which not-s not-whole = by (ltb which 8) refl
   where
@@ -88,13 +95,13 @@ power-at m which not-s not-whole = by (ltb which 8) refl
     rest : List ℕ
     rest = powerRegister (meterT m) (m .latest .s) ∷ m .latest .s / 100 ∷ []
 
-    by : (t : Bool) → ltb which 8 ≡ t → getD (map f (powersOf (m .latest)) ++ rest) which 0 ≡ f (getD (powersOf (m .latest)) which none)
+    by : (t : Bool) → ltb which 8 ≡ t → getD (map f (powersOf m) ++ rest) which 0 ≡ f (getD (powersOf m) which none)
     by true h =
-        List·getD-append (map f (powersOf (m .latest))) rest 0 which (ltb-true which 8 h)
-        ∙ each f (powersOf (m .latest)) which none (zero-div _)
+        List·getD-append (map f (powersOf m)) rest 0 which (ltb-true which 8 h)
+        ∙ each f (powersOf m) which none (zero-div _)
     by false h =
-        List·getD-eq-default (map f (powersOf (m .latest)) ++ rest) 0 {n = which} (omega (arith, ltb-false which 8 h, not-s, not-whole))
-        ∙ sym (ap f (List·getD-eq-default (powersOf (m .latest)) none (ltb-false which 8 h)) ∙ zero-div _)
+        List·getD-eq-default (map f (powersOf m) ++ rest) 0 {n = which} (omega (arith, ltb-false which 8 h, not-s, not-whole))
+        ∙ sym (ap f (List·getD-eq-default (powersOf m) none (ltb-false which 8 h)) ∙ zero-div _)
 
 -- the powers of a meter within limits are within the power limit
 abbrev Most : ℕ → List Signed → Type 0
@@ -106,15 +113,15 @@ most-at limit [] h i = zero-le
 most-at limit (p ∷ ps) h zero = h .0
 most-at limit (p ∷ ps) h (suc i) = most-at limit ps (h .1) i
 
-pub power-most : (m : Meter) (which : ℕ) → meterOk m ≡ true → powerAt (m .latest) which .magnitude ≤ powerLimit (meterT m)
+pub power-most : (m : Meter) (which : ℕ) → meterOk m ≡ true → powerAt m which .magnitude ≤ powerLimit (meterT m)
 unfolding powerAt
 power-most m which h =
     let t = meterT m in
     let s = sample-parts t (m .latest) (meter-parts m h .latest) in
     let p = phases-most (powerLimit t) (m .latest .p) (powers-phases t (m .latest .p) (s .p)) in
     let q = phases-most (powerLimit t) (m .latest .q) (powers-phases t (m .latest .q) (s .q)) in
-    most-at (powerLimit t) (powersOf (m .latest))
-    (powers-sum t (m .latest .p) (s .p), (powers-sum t (m .latest .q) (s .q), (p .0, (p .1, (p .2, (q .0, (q .1, (q .2, tt))))))))
+    most-at (powerLimit t) (powersOf m)
+    (in-force-most t (m .latest .p) (s .p), (in-force-most t (m .latest .q) (s .q), (p .0, (p .1, (p .2, (q .0, (q .1, (q .2, tt))))))))
     which
 
 -- ---- plain words
@@ -126,12 +133,12 @@ second-at a b i h = ap (λ (k : ℕ). getD (a ++ b) k 0) split ∙ getD-append-a
     split : i ≡ length a + (i - length a)
     split = omega (arith, h)
 
-pub plain-at : (m : Meter) (which : ℕ) → 3 ≤ which → getD (plainValues m) which 0 ≡ getD (m .standard ++ m .output) (which - 3) 0
+pub plain-at : (m : Meter) (which : ℕ) → 3 ≤ which → getD (plainValues m) which 0 ≡ getD (m .setup .standard ++ m .setup .output) (which - 3) 0
 unfolding plainValues
 plain-at m zero h = absurd (omega arith)
 plain-at m (suc zero) h = absurd (omega arith)
 plain-at m (suc (suc zero)) h = absurd (omega arith)
-plain-at m (suc (suc (suc k))) h = ap (λ (i : ℕ). getD (m .standard ++ m .output) i 0) back
+plain-at m (suc (suc (suc k))) h = ap (λ (i : ℕ). getD (m .setup .standard ++ m .setup .output) i 0) back
   where
     back : k ≡ suc (suc (suc k)) - 3
     back = omega arith

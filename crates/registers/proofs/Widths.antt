@@ -18,6 +18,7 @@ use Rattle.directory.specs.Table.{directory}
 use Rattle.directory.specs.Item.{none}
 use Rattle.directory.proofs.ByKind.{_also_}
 use Rattle.directory.proofs.Rules.{directory-rules}
+use Rattle.meter.specs.declared.groups.Setup.{Setup}
 use Rattle.meter.specs.declared.Meter.{Meter}
 use Rattle.meter.specs.Samples.{factorOf}
 use Rattle.meter.specs.Meters.{meterT, meterOk, withSetup, energyAt}
@@ -139,16 +140,16 @@ module _ (m : Meter) (typed : Typed m) (h : meterOk m ≡ true) where
           rw (eqb-true i 9 f, power-whole m) (omega (arith, powers-fit .signed (meterT m) (m .latest .s) (parts .apparent)))
       by false false e f =
           rw (power-at m i (eqb-false i 8 e) (eqb-false i 9 f))
-          (powers-fit .register (meterT m) (powerAt (m .latest) i .magnitude) (power-most m i h))
+          (powers-fit .register (meterT m) (powerAt m i .magnitude) (power-most m i h))
 
   signed-fits : (i : ℕ) → getD (signedValues m) i 0 < 256 ^ 4
   signed-fits i =
       rw (signed-at m i)
-      (twos-fits 2 (powerAt (m .latest) i .negative) (powerAt (m .latest) i .magnitude / 100)
-      (omega (arith, powers-fit .signed (meterT m) (powerAt (m .latest) i .magnitude) (power-most m i h))))
+      (twos-fits 2 (powerAt m i .negative) (powerAt m i .magnitude / 100)
+      (omega (arith, powers-fit .signed (meterT m) (powerAt m i .magnitude) (power-most m i h))))
 
   sign-fits : (i : ℕ) → getD (signValues m) i 0 < 256 ^ 1
-  sign-fits i = rw (sign-at m i) (omega (arith, sign-most (powerAt (m .latest) i .negative)))
+  sign-fits i = rw (sign-at m i) (omega (arith, sign-most (powerAt m i .negative)))
 
   factor-fits : Fit (factorValues (factorOf (m .latest .factor))) (2 ∷ 4 ∷ [])
   unfolding factorValues
@@ -159,12 +160,14 @@ module _ (m : Meter) (typed : Typed m) (h : meterOk m ≡ true) where
   plain-fits : Fit (plainValues m) (1 ∷ 1 ∷ 2 ∷ replicate (16 + 24) 2)
   unfolding plainValues
   plain-fits =
-      let long : length (m .standard ++ m .output) ≡ 40 = rw (length-append, typed .standard .long, typed .output .long) refl in
-      (omega arith, (omega arith, (omega arith, all-fit 2 40 (m .standard ++ m .output) long (append-fits 2 (m .standard) (m .output) (typed .standard .word) (typed .output .word)))))
+      let s = m .setup in
+      let t = typed .setup in
+      let long : length (s .standard ++ s .output) ≡ 40 = rw (length-append, t .standard .long, t .output .long) refl in
+      (omega arith, (omega arith, (omega arith, all-fit 2 40 (s .standard ++ s .output) long (append-fits 2 (s .standard) (s .output) (t .standard .word) (t .output .word)))))
 
-  ratio-tops : (m .ratios .kta ≤ 9999) × (m .ratios .ktv ≤ 9999)
+  ratio-tops : (m .given .ratios .kta ≤ 9999) × (m .given .ratios .ktv ≤ 9999)
   ratio-tops =
-      let r = m .ratios in
+      let r = m .given .ratios in
       let t = ratio-parts m h in
       (leb-true _ _ (and-eq-true-iff (leb 1 (r .kta)) (leb (r .kta) 9999) .0 (t .0) .1), leb-true _ _ (and-eq-true-iff (leb 10 (r .ktv)) (leb (r .ktv) 9999) .0 (t .1) .1))
 
@@ -220,13 +223,13 @@ every-case = record {
   room = λ m typed h i l. in-room i l (fits m typed h (getD directory i none .quantity));
 }
 
-unseen : (m : Meter) (standard output : List ℕ) (k : ℕ) → k < 16 → getD (valuesOf (withSetup m standard output)) k [] ≡ getD (valuesOf m) k []
+unseen : (m : Meter) (setup : Setup) (k : ℕ) → k < 16 → getD (valuesOf (withSetup m setup)) k [] ≡ getD (valuesOf m) k []
 unfolding powerValues signedValues signValues countValues lowValues highValues wrapValues
-unseen m standard output k h =
-    let n = withSetup m standard output in
+unseen m setup k h =
+    let n = withSetup m setup in
     List·getD-append (take 16 (valuesOf n)) (plainValues n ∷ []) [] k h
     ∙ sym (List·getD-append (take 16 (valuesOf m)) (plainValues m ∷ []) [] k h)
 
 pub setup-unseen : SetupUnseen
 unfolding shownOf
-setup-unseen = record { kinds = λ m standard output q h. ap (λ (l : List ℕ). getD l (q % 64) 0) (unseen m standard output (q / 64) h) }
+setup-unseen = record { kinds = λ m setup q h. ap (λ (l : List ℕ). getD l (q % 64) 0) (unseen m setup (q / 64) h) }

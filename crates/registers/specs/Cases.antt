@@ -10,6 +10,7 @@ use Rattle.directory.specs.Quantity.{widthOf}
 use Rattle.directory.specs.Order.{roomOf}
 use Rattle.directory.specs.Table.{directory}
 use Rattle.meter.specs.declared.samples.Sample.{Sample}
+use Rattle.meter.specs.declared.groups.Setup.{Setup}
 use Rattle.meter.specs.declared.Meter.{Meter}
 use Rattle.meter.specs.Meters.{meterOk, withSetup}
 use Rattle.registers.specs.Shown.{valuesOf, shownOf}
@@ -27,11 +28,15 @@ pub record WordsTyped (n : ℕ) (words : List ℕ) : Type 0 where
   pub long : length words ≡ n
   pub word : (i : ℕ) → getD words i 0 < 256 ^ 2
 
+-- so both groups of a setup
+pub record SetupTyped (s : Setup) : Type 0 where
+  pub standard : WordsTyped 16 (s .standard)
+  pub output : WordsTyped 24 (s .output)
+
 -- and a record
 pub record Typed (m : Meter) : Type 0 where
   pub latest : SampleTyped (m .latest)
-  pub standard : WordsTyped 16 (m .standard)
-  pub output : WordsTyped 24 (m .output)
+  pub setup : SetupTyped (m .setup)
 
 -- STATEMENT: a quantity of the directory is one of its kind's values; what a meter within limits shows of it fits its bytes, and the item
 pub record EveryCase : Type 0 where
@@ -44,4 +49,4 @@ pub record EveryCase : Type 0 where
 
 -- STATEMENT: setup words alter no measurement: what is shown of every other kind is the same with others
 pub record SetupUnseen : Type 0 where
-  pub kinds : (m : Meter) (standard output : List ℕ) (q : ℕ) → q / 64 < 16 → shownOf (withSetup m standard output) q ≡ shownOf m q
+  pub kinds : (m : Meter) (setup : Setup) (q : ℕ) → q / 64 < 16 → shownOf (withSetup m setup) q ≡ shownOf m q

@@ -9,42 +9,41 @@ use Rattle.signed.specs.Signs.{signedOf, signWord}
 use Rattle.ratio.specs.Powers.{powerRegister}
 use Rattle.counts.specs.Energies.{registerOf, wrapOf, lowOf, highOf}
 use Rattle.meter.specs.declared.energies.Energy.{Energy}
-use Rattle.meter.specs.declared.samples.Sample.{Sample}
 use Rattle.meter.specs.declared.Meter.{Meter}
-use Rattle.meter.specs.Samples.{threeOf, factorOf}
+use Rattle.meter.specs.Samples.{inForce, factorOf}
 use Rattle.meter.specs.Meters.{meterT, energiesOf}
 use Rattle.registers.specs.SignedWords.{signedPower, factorHundredths, factorThousandths}
 
--- the signed powers: 3-phase P and Q, then P and Q phase by phase
-abbrev pub powersOf : Sample → List Signed
-powersOf s =
-    threeOf (s .p) ∷
-    threeOf (s .q) ∷
-    signedOf (s .p .l1) ∷
-    signedOf (s .p .l2) ∷
-    signedOf (s .p .l3) ∷
-    signedOf (s .q .l1) ∷
-    signedOf (s .q .l2) ∷
-    signedOf (s .q .l3) ∷
+-- the signed powers of the latest sample: 3-phase P and Q, then P and Q phase by phase
+abbrev pub powersOf : Meter → List Signed
+powersOf m =
+    inForce (m .latest .p) ∷
+    inForce (m .latest .q) ∷
+    signedOf (m .latest .p .l1) ∷
+    signedOf (m .latest .p .l2) ∷
+    signedOf (m .latest .p .l3) ∷
+    signedOf (m .latest .q .l1) ∷
+    signedOf (m .latest .q .l2) ∷
+    signedOf (m .latest .q .l3) ∷
     []
 
 -- the one of a number; none beyond
-unfoldable pub powerAt : Sample → ℕ → Signed
-powerAt s which = getD (powersOf s) which (record { negative = false; magnitude = 0 })
+unfoldable pub powerAt : Meter → ℕ → Signed
+powerAt m which = getD (powersOf m) which (record { negative = false; magnitude = 0 })
 
 -- P, Q, S registers hold a magnitude; S at 0x1530 in whole VA
 unfoldable pub powerValues : Meter → List ℕ
 powerValues m =
-    map (λ (p : Signed). powerRegister (meterT m) (p .magnitude)) (powersOf (m .latest)) ++
+    map (λ (p : Signed). powerRegister (meterT m) (p .magnitude)) (powersOf m) ++
     (powerRegister (meterT m) (m .latest .s) ∷ m .latest .s / 100 ∷ [])
 
 -- signed words are whole W or var, cut toward zero
 unfoldable pub signedValues : Meter → List ℕ
-signedValues m = map (λ (p : Signed). signedPower (p .negative) (p .magnitude)) (powersOf (m .latest))
+signedValues m = map (λ (p : Signed). signedPower (p .negative) (p .magnitude)) (powersOf m)
 
 -- sign words: 0 for zero or more, 1 for negative
 unfoldable pub signValues : Meter → List ℕ
-signValues m = map (λ (p : Signed). signWord (p .negative)) (powersOf (m .latest))
+signValues m = map (λ (p : Signed). signWord (p .negative)) (powersOf m)
 
 -- the register is the count modulo 100,000,000
 unfoldable pub countValues : Meter → List ℕ
@@ -68,7 +67,7 @@ factorValues f = factorHundredths (f .negative) (f .magnitude) ∷ factorThousan
 
 -- plain words: zeros, the identifiers 0x11 and 0x1114, the setup words
 unfoldable pub plainValues : Meter → List ℕ
-plainValues m = 0 ∷ 0x11 ∷ 0x1114 ∷ (m .standard ++ m .output)
+plainValues m = 0 ∷ 0x11 ∷ 0x1114 ∷ (m .setup .standard ++ m .setup .output)
 
 -- what a meter shows, kind by kind in the order of paper 01's list of readings, from kind 1 on
 abbrev pub valuesOf : Meter → List (List ℕ)
@@ -86,8 +85,8 @@ valuesOf m =
     signValues m ∷
     (m .latest .sector ∷ []) ∷
     (m .latest .frequency ∷ []) ∷
-    (m .ratios .kta ∷ []) ∷
-    (m .ratios .ktv ∷ []) ∷
+    (m .given .ratios .kta ∷ []) ∷
+    (m .given .ratios .ktv ∷ []) ∷
     (m .latest .sequence ∷ []) ∷
     plainValues m ∷
     []

@@ -12,6 +12,7 @@ ghost use Rattle.registers.specs.Shown.{powerAt, powerValues, signedValu
 use counts::WattHours;
 use directory::quantity::*;
 use meter::Meter;
+use meter::groups::Setup;
 use meter::samples::Factor;
 use signed::Signed;
 
@@ -34,8 +35,8 @@ pub fn shown(m: Meter, quantity: u16) -> u32
         SIGN => sign(m, which),
         SECTOR => only(m.latest.sector as u16, which),
         FREQUENCY => only(m.latest.frequency, which),
-        KTA => only(m.ratios.kta, which),
-        KTV => only(m.ratios.ktv, which),
+        KTA => only(m.given.ratios.kta, which),
+        KTV => only(m.given.ratios.ktv, which),
         SEQUENCE => only(m.latest.sequence as u16, which),
         PLAIN => plain(m, which),
         _ => 0,
@@ -68,7 +69,7 @@ fn power(m: Meter, which: u16) -> u32
     requires { ⌜ meterOk m ≡ true ⌝ }
     ensures { λ r. ⌜ r ≡ getD (powerValues m) which 0 ⌝ }
 {
-    let t = m.ratios.tenths();
+    let t = m.given.ratios.tenths();
     match which {
         S => ratio::power_register(t, m.latest.s) as u32,
         WHOLE_S => (m.latest.s / ratio::WHOLE_UNIT) as u32,
@@ -102,16 +103,16 @@ fn sign_word(power: Signed) -> u32
     if power.negative { 1 } else { 0 }
 }
 
-// The signed powers of the latest sample.
+// The signed powers of the latest sample; 3-phase, the sum in force.
 fn power_at(m: Meter, which: u16) -> Signed
     requires { ⌜ meterOk m ≡ true ⌝ }
-    ensures { λ r. ⌜ r ≡ powerAt (m .latest) which ⌝ }
+    ensures { λ r. ⌜ r ≡ powerAt m which ⌝ }
 {
     let p = m.latest.p;
     let q = m.latest.q;
     match which {
-        P => p.three(),
-        Q => q.three(),
+        P => p.in_force(),
+        Q => q.in_force(),
         P1 => Signed::of(p.l1),
         P2 => Signed::of(p.l2),
         P3 => Signed::of(p.l3),
@@ -128,7 +129,7 @@ fn power_at(m: Meter, which: u16) -> Signed
 fn count(m: Meter, which: u16) -> u32
     ensures { λ r. ⌜ r ≡ getD (countValues m) which 0 ⌝ }
 {
-    let register = energy_at(m, which).register(m.ratios.tenths());
+    let register = energy_at(m, which).register(m.given.ratios.tenths());
     register.0
 }
 
@@ -149,17 +150,17 @@ fn wrap(m: Meter, which: u16) -> u32
     requires { ⌜ meterOk m ≡ true ⌝ }
     ensures { λ r. ⌜ r ≡ getD (wrapValues m) which 0 ⌝ }
 {
-    energy_at(m, which).wrap(m.ratios.tenths()) as u32
+    energy_at(m, which).wrap(m.given.ratios.tenths()) as u32
 }
 
 fn energy_at(m: Meter, which: u16) -> WattHours
     ensures { λ r. ⌜ r ≡ energyAt which m .wh ⌝ }
 {
     match which {
-        POS_EA => m.active.positive.wh,
-        NEG_EA => m.active.negative.wh,
-        POS_ER => m.reactive.positive.wh,
-        NEG_ER => m.reactive.negative.wh,
+        POS_EA => m.counters.active.positive.wh,
+        NEG_EA => m.counters.active.negative.wh,
+        POS_ER => m.counters.reactive.positive.wh,
+        NEG_ER => m.counters.reactive.negative.wh,
         _ => WattHours(0),
     }
 }
@@ -189,14 +190,21 @@ fn only(value: u16, which: u16) -> u32
 fn plain(m: Meter, which: u16) -> u32
     ensures { λ r. ⌜ r ≡ getD (plainValues m) which 0 ⌝ }
 {
-    let standard = m.standard;
-    let output = m.output;
     match which {
         ZEROS => 0,
         BYTE_IDENTIFIER => 0x11,
         WORD_IDENTIFIER => 0x1114,
-        _ => word_at(&standard, &output, (which - FIRST_SETUP) as usize) as u32,
+        _ => setup_at(m.setup, (which - FIRST_SETUP) as usize) as u32,
     }
+}
+
+// The setup words, numbered through both groups.
+fn setup_at(setup: Setup, i: usize) -> u16
+    ensures { λ r. ⌜ r ≡ getD (setup .standard ++ setup .output) i 0 ⌝ }
+{
+    let standard = setup.standard;
+    let output = setup.output;
+    word_at(&standard, &output, i)
 }
 
 // The words of two groups, numbered through.

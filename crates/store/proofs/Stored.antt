@@ -8,6 +8,7 @@ use Rattle.refusal.specs.declared.ErrorCode.the-variants.{Address, Data}
 use Rattle.setup.specs.Ranges.{groupOk}
 use Rattle.modbus.specs.Frame.{startOf, wordNumber, valuesOf, writeShaped}
 use Rattle.meter.specs.declared.Meter.{Meter}
+use Rattle.meter.specs.Groups.{withStandard, withOutput}
 use Rattle.meter.specs.Meters.{withSetup}
 use Rattle.store.specs.declared.Verdict.the-variants.{Good}
 use Rattle.store.specs.Writes.{toStandard, toOutput, wrongOf, writtenOf}
@@ -34,7 +35,7 @@ module _ (m : Meter) (frame : List ℕ) where
     unfolding writtenOf
     bad-16 n g = rw (h, s, eq-eqb (wordNumber frame) 16 n, group-at g) refl
 
-    pub good-16 : wordNumber frame ≡ 16 → groupOk 0x2000 (valuesOf frame) ≡ true → record { verdict = Good; meter = withSetup m (valuesOf frame) (m .output) } ≡ writtenOf m frame
+    pub good-16 : wordNumber frame ≡ 16 → groupOk 0x2000 (valuesOf frame) ≡ true → record { verdict = Good; meter = withSetup m (withStandard (m .setup) (valuesOf frame)) } ≡ writtenOf m frame
     unfolding writtenOf
     good-16 n g = rw (h, s, eq-eqb (wordNumber frame) 16 n, group-at g) refl
 
@@ -51,6 +52,6 @@ module _ (m : Meter) (frame : List ℕ) where
     unfolding writtenOf
     bad-24 n g = rw (h, s, o, eq-eqb (wordNumber frame) 24 n, output-at g) refl
 
-    pub good-24 : wordNumber frame ≡ 24 → groupOk 0x2200 (valuesOf frame) ≡ true → record { verdict = Good; meter = withSetup m (m .standard) (valuesOf frame) } ≡ writtenOf m frame
+    pub good-24 : wordNumber frame ≡ 24 → groupOk 0x2200 (valuesOf frame) ≡ true → record { verdict = Good; meter = withSetup m (withOutput (m .setup) (valuesOf frame)) } ≡ writtenOf m frame
     unfolding writtenOf
     good-24 n g = rw (h, s, o, eq-eqb (wordNumber frame) 24 n, output-at g) refl

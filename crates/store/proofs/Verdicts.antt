@@ -14,13 +14,14 @@ use Rattle.refusal.proofs.Distinct.{one-reason-each, caseIn, numberIn}
 use Rattle.setup.specs.Ranges.{groupOk}
 use Rattle.modbus.specs.Frame.{startOf, wordNumber, valuesOf, writeShaped}
 use Rattle.meter.specs.declared.Meter.{Meter}
-use Rattle.meter.specs.Meters.{meterOk, withSetup}
+use Rattle.meter.specs.Groups.{setupOk}
+use Rattle.meter.specs.Meters.{meterOk}
 use Rattle.meter.proofs.Parts.{meter-parts}
 use Rattle.meter.proofs.Answers.{other-within}
 use Rattle.store.specs.declared.Verdict.{Verdict}
 use Rattle.store.specs.declared.Verdict.the-variants.{Good, Wrong}
 use Rattle.store.specs.declared.Written.{Written}
-use Rattle.store.specs.Writes.{toStandard, toOutput, groupWords, storedOf, wrongOf, writtenOf, toGroup, fits, verdictTold, WriteWhen}
+use Rattle.store.specs.Writes.{toStandard, toOutput, groupWords, replacedIn, storedOf, wrongOf, writtenOf, toGroup, fits, verdictTold, WriteWhen}
 
 -- what the tests lead to: a shaped, p to a group, n its words, g its values; m is the meter, k the meter with it stored
 abbrev judged : Bool → Bool → Bool → Bool → Meter → Meter → Written
@@ -122,23 +123,23 @@ module _ (m : Meter) (frame : List ℕ) (hm : meterOk m ≡ true) (t : toGroup f
       let in-range = and-eq-true-iff (eqb (wordNumber frame) (groupWords frame)) _ .0 f .1 in
       ap (λ (a : ℕ). groupOk a (valuesOf frame)) (sym (eqb-true _ _ s)) ∙ in-range
 
-  groups : (groupOk 0x2000 (m .standard) ≡ true) × (groupOk 0x2200 (m .output) ≡ true)
-  groups = and-eq-true-iff (groupOk 0x2000 (m .standard)) _ .0 (meter-parts m hm .setup)
+  groups : (groupOk 0x2000 (m .setup .standard) ≡ true) × (groupOk 0x2200 (m .setup .output) ≡ true)
+  groups = and-eq-true-iff (groupOk 0x2000 (m .setup .standard)) _ .0 (meter-parts m hm .setup)
 
-  stored-within : (s : Bool) → toStandard frame ≡ s → meterOk (storedOf m frame) ≡ true
-  stored-within true s =
-      let e : storedOf m frame ≡ withSetup m (valuesOf frame) (m .output) = rw s refl in
-      ap meterOk e ∙ other-within m (valuesOf frame) (m .output) hm (λ i. ranged 0x2000 s i && groups .1 i)
-  stored-within false s =
-      let e : storedOf m frame ≡ withSetup m (m .standard) (valuesOf frame) = rw s refl in
+  replaced-within : (s : Bool) → toStandard frame ≡ s → setupOk (replacedIn (m .setup) frame) ≡ true
+  replaced-within true s = rw s (λ i. ranged 0x2000 s i && groups .1 i)
+  replaced-within false s =
       let o : toOutput frame ≡ true = sym (ap (λ (x : Bool). x || toOutput frame) s) ∙ t in
-      ap meterOk e ∙ other-within m (m .standard) (valuesOf frame) hm (λ i. groups .0 i && ranged 0x2200 o i)
+      rw s (λ i. groups .0 i && ranged 0x2200 o i)
+
+  stored-within : meterOk (storedOf m frame) ≡ true
+  stored-within = other-within m (replacedIn (m .setup) frame) hm (replaced-within (toStandard frame) refl)
 
 by-verdict : (m : Meter) (frame : List ℕ) → meterOk m ≡ true → (v : Verdict) → writtenOf m frame .verdict ≡ v → meterOk (writtenOf m frame .meter) ≡ true
 by-verdict m frame h (Wrong code) e = ap meterOk (write-when .kept m frame code e) ∙ h
 by-verdict m frame h Good e =
     let l = write-when .legal m frame .0 e in
-    ap meterOk (write-when .stored m frame e) ∙ stored-within m frame h (l .1) (l .2) (toStandard frame) refl
+    ap meterOk (write-when .stored m frame e) ∙ stored-within m frame h (l .1) (l .2)
 
 -- a write keeps a record within limits
 pub write-within : (m : Meter) (frame : List ℕ) → meterOk m ≡ true → meterOk (writtenOf m frame .meter) ≡ true

@@ -10,7 +10,9 @@ use Rattle.refusal.specs.declared.ErrorCode.the-variants.{Address, Data}
 use Rattle.refusal.specs.Numbers.{errorNumber, errorBy}
 use Rattle.setup.specs.Ranges.{groupOk}
 use Rattle.modbus.specs.Frame.{startOf, wordNumber, valuesOf, writeShaped}
+use Rattle.meter.specs.declared.groups.Setup.{Setup}
 use Rattle.meter.specs.declared.Meter.{Meter}
+use Rattle.meter.specs.Groups.{withStandard, withOutput}
 use Rattle.meter.specs.Meters.{withSetup}
 use Rattle.store.specs.declared.Verdict.{Verdict}
 use Rattle.store.specs.declared.Verdict.the-variants.{Good, Wrong}
@@ -32,12 +34,13 @@ toGroup frame = toStandard frame || toOutput frame
 abbrev pub groupWords : List ℕ → ℕ
 groupWords frame = cond (toStandard frame) 16 24
 
--- the group is stored: replaced whole, and nothing else
+-- the group is replaced whole
+abbrev pub replacedIn : Setup → List ℕ → Setup
+replacedIn s frame = cond (toStandard frame) (withStandard s (valuesOf frame)) (withOutput s (valuesOf frame))
+
+-- and so stored, and nothing else
 abbrev pub storedOf : Meter → List ℕ → Meter
-storedOf m frame =
-    cond (toStandard frame)
-    (withSetup m (valuesOf frame) (m .output))
-    (withSetup m (m .standard) (valuesOf frame))
+storedOf m frame = withSetup m (replacedIn (m .setup) frame)
 
 -- an error, and the record as it was
 abbrev pub wrongOf : Meter → ErrorCode → Written

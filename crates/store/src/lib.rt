@@ -2,6 +2,7 @@
 ghost use mathlib.Core.Path.{_≡_};
 ghost use mathlib.Core.Bool.{true, false};
 ghost use Rattle.modbus.specs.Frame.{writeShaped};
+ghost use Rattle.meter.specs.Groups.{withStandard, withOutput};
 ghost use Rattle.meter.specs.Meters.{withSetup};
 ghost use Rattle.store.specs.Writes.{toStandard, toOutput, writtenOf, wrongOf};
 use meter::Meter;
@@ -62,10 +63,12 @@ fn standard(m: Meter, frame: &[u8]) -> Written
 }
 
 fn with_standard(m: Meter, group: [u16; 16]) -> Meter
-    ensures { λ r. ⌜ r ≡ withSetup m group (m .output) ⌝ }
+    ensures { λ r. ⌜ r ≡ withSetup m (withStandard (m .setup) group) ⌝ }
 {
+    let mut changed = m.setup;
+    changed.standard = group;
     let mut next = m;
-    next.standard = group;
+    next.setup = changed;
     next
 }
 
@@ -89,9 +92,11 @@ fn output(m: Meter, frame: &[u8]) -> Written
 }
 
 fn with_output(m: Meter, group: [u16; 24]) -> Meter
-    ensures { λ r. ⌜ r ≡ withSetup m (m .standard) group ⌝ }
+    ensures { λ r. ⌜ r ≡ withSetup m (withOutput (m .setup) group) ⌝ }
 {
+    let mut changed = m.setup;
+    changed.output = group;
     let mut next = m;
-    next.output = group;
+    next.setup = changed;
     next
 }

@@ -72,8 +72,8 @@ fn of_003() {
 // Counts of +Ea and +Er, at a step of 10 Wh.
 fn of_004() {
     let mut m = new(1);
-    m.active.positive.wh.0 = 257_400;
-    m.reactive.positive.wh.0 = 136_520;
+    m.counters.active.positive.wh.0 = 257_400;
+    m.counters.reactive.positive.wh.0 = 136_520;
     ask(m, b"004, two energies", b"\x01\x03\x10\x1C\x00\x04\x81\x0F");
 }
 

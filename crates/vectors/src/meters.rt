@@ -40,7 +40,7 @@ fn three_phases() {
         l3: 120_000,
     };
     let answered = new().after(sample(p, 0));
-    let ea = answered.meter.active.positive;
+    let ea = answered.meter.counters.active.positive;
     say::field(
         b"three phases of 120000 hundredths for one second: ",
         ea.wh.0,
@@ -76,7 +76,7 @@ fn factor(name: &[u8], thousandths: i16) {
 // A record that holds this +Ea, in each of its places.
 fn energy(wh: u64) {
     let mut m = new();
-    m.active.positive.wh.0 = wh;
+    m.counters.active.positive.wh.0 = wh;
     say::field(b"+Ea of ", wh);
     say::text(b" Wh, register, wrap, Low and High:");
     show(
@@ -120,7 +120,7 @@ pub fn refusals() {
 // A record, and a sample.
 fn out_of_limits() {
     let mut full = new();
-    full.active.positive.remainder = 360_000;
+    full.counters.active.positive.remainder = 360_000;
     answer(b"a remainder of 360000", full.after(full.latest));
     let mut odd = new().latest;
     odd.sector = 3;
@@ -152,7 +152,7 @@ fn least() {
 // At the top the remainder may still fill; one more Wh is refused.
 fn past_top() {
     let mut m = new();
-    m.active.positive.wh.0 = Meter::WH_TOP;
+    m.counters.active.positive.wh.0 = Meter::WH_TOP;
     let some = Powers {
         l1: 359_999,
         l2: 0,
@@ -170,7 +170,7 @@ fn past_top() {
 // Record and buffer are looked at before the frame, which is too short to be heard.
 fn of_a_frame() {
     let mut full = new();
-    full.active.positive.remainder = 360_000;
+    full.counters.active.positive.remainder = 360_000;
     let mut room = [0u8; 256];
     handled(b"a frame to a remainder of 360000", full, &mut room);
     let mut short = [0u8; 255];

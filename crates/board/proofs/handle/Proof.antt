@@ -20,7 +20,7 @@ within c = sym (c .before .within .ensures) ∙ not-false _ (c .if1 .left)
 room : (c : tie.Else2) → ltb (length (c .before .before .before .before .before .args .buffer .now)) 256 ≡ false
 room c = le-ltb _ _ (c .if2 .left)
 
-heard : (c : tie.Else3) → silence (c .before .before .before .before .before .before .before .args .meter .address) (c .before .before .before .before .before .before .before .args .frame .now) ≡ false
+heard : (c : tie.Else3) → silence (c .before .before .before .before .before .before .before .args .meter .given .address) (c .before .before .before .before .before .before .before .args .frame .now) ≡ false
 heard c = sym (c .before .silence .ensures) ∙ c .if3 .left
 
 with-requires : tie.Need-with-requires

@@ -8,8 +8,8 @@ use Rattle.board.proofs.Cases.{allowed, unwritten, read-sent, other-sen
 use Rattle.board.proofs.obey.Statement.{statement}
 use Rattle.board.proofs.obey.Tie as tie
 
-heard : (s : tie.Start) → Heeded (s .args .meter .address) (s .args .frame .now)
-heard s = heeded (s .args .meter .address) (s .args .frame .now) (s .pre .1 .0)
+heard : (s : tie.Start) → Heeded (s .args .meter .given .address) (s .args .frame .now)
+heard s = heeded (s .args .meter .given .address) (s .args .frame .now) (s .pre .1 .0)
 
 shared-slice-read-if1 : tie.Need-shared-slice-read-if1
 shared-slice-read-if1 c = omega (arith, heard (c .before .before .before) .least)

@@ -16,7 +16,7 @@ write-requires c κs = search needs
 shared-slice-read-address : tie.Need-shared-slice-read-address
 shared-slice-read-address c =
     let s = c .before .before .before .before .before in
-    omega (arith, heeded (s .args .meter .address) (s .args .frame .now) (s .pre .0) .least)
+    omega (arith, heeded (s .args .meter .given .address) (s .args .frame .now) (s .pre .0) .least)
 
 with-requires : tie.Need-with-requires
 with-requires c κs = search needs
@@ -43,7 +43,7 @@ enum-known-verdict c = search needs
 put-error-requires : tie.Need-put-error-requires
 put-error-requires c κs =
     let s = c .before .before .before .before .before .before .before .before .before .before in
-    let h = heeded (s .args .meter .address) (s .args .frame .now) (s .pre .0) in
+    let h = heeded (s .args .meter .given .address) (s .args .frame .now) (s .pre .0) in
     (omega (arith, h .least), h .low, s .pre .1 .1)
 
 same-length : tie.Need-same-length

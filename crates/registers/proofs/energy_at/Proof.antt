@@ -4,7 +4,8 @@ use Prim.Native.Nat.{_≤_}
 use native.Mathlib.Omega.{arith}
 use lib.ListN.{List·getD-eq-default}
 use Rattle.meter.specs.declared.energies.Energy.{Energy}
-use Rattle.meter.specs.Meters.{noEnergy, energiesOf}
+use Rattle.meter.specs.Energies.{noEnergy}
+use Rattle.meter.specs.Meters.{energiesOf}
 use borrow.Author.Needs.{needs}
 use Rattle.registers.proofs.energy_at.Statement.{statement}
 use Rattle.registers.proofs.energy_at.Tie as tie

@@ -8,23 +8,17 @@ use borrow.Author.Needs.{needs}
 use Rattle.registers.proofs.plain.Statement.{statement}
 use Rattle.registers.proofs.plain.Tie as tie
 
-past : (c : tie.At-match-rest) → 3 ≤ c .before .before .before .args .which
-past c = number-past (c .before .before .before .args .which) 0 3 zero-le (c .match .rest)
+past : (c : tie.At-match-rest) → 3 ≤ c .before .args .which
+past c = number-past (c .before .args .which) 0 3 zero-le (c .match .rest)
 
-slice-aggregate-word-at : tie.Need-slice-aggregate-word-at
-slice-aggregate-word-at c = search needs
+sub-setup-at : tie.Need-sub-setup-at
+sub-setup-at c = search needs
 
-slice-aggregate-word-at-2 : tie.Need-slice-aggregate-word-at-2
-slice-aggregate-word-at-2 c = search needs
+cast-setup-at : tie.Need-cast-setup-at
+cast-setup-at c = search needs
 
-sub-word-at : tie.Need-sub-word-at
-sub-word-at c = search needs
-
-cast-word-at : tie.Need-cast-word-at
-cast-word-at c = search needs
-
-word-at-requires : tie.Need-word-at-requires
-word-at-requires c κs = search needs
+setup-at-requires : tie.Need-setup-at-requires
+setup-at-requires c κs = search needs
 
 cast-result : tie.Need-cast-result
 cast-result c = search needs
@@ -43,19 +37,17 @@ returns-3 c = rw (c .match .keys3) refl
 
 returns-4 : tie.Need-returns-4
 returns-4 c =
-    let r = c .before .before .before in
-    let s = r .before .before .before in
-    c .word-at .ensures ∙ sym (plain-at (s .args .m) (s .args .which) (past r))
+    let r = c .before in
+    let s = r .before in
+    c .setup-at .ensures ∙ sym (plain-at (s .args .m) (s .args .which) (past r))
 
 pub plain-spec : {M : Type 1} → statement M
 plain-spec =
     tie.close
     (tie.spec
-    slice-aggregate-word-at
-    slice-aggregate-word-at-2
-    sub-word-at
-    cast-word-at
-    word-at-requires
+    sub-setup-at
+    cast-setup-at
+    setup-at-requires
     cast-result
     returns
     returns-2

@@ -38,7 +38,7 @@ cast-result-3 : tie.Need-cast-result-3
 cast-result-3 c =
     let s = c .before .before .before .before in
     rw (c .power-register2 .ensures, c .before .before .before .tenths .ensures, c .before .power-at .ensures)
-    (record { fits = powers-fit .register (meterT (s .args .m)) (powerAt (s .args .m .latest) (s .args .which) .magnitude) (power-most (s .args .m) (s .args .which) (s .pre)) })
+    (record { fits = powers-fit .register (meterT (s .args .m)) (powerAt (s .args .m) (s .args .which) .magnitude) (power-most (s .args .m) (s .args .which) (s .pre)) })
 
 returns : tie.Need-returns
 returns c = rw (c .before .match .keys1, c .power-register .ensures, c .before .before .tenths .ensures) (sym (power-s (c .before .before .before .args .m)))

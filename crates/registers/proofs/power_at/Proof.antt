@@ -11,13 +11,13 @@ use borrow.Author.Needs.{needs}
 use Rattle.registers.proofs.power_at.Statement.{statement}
 use Rattle.registers.proofs.power_at.Tie as tie
 
-three-requires : tie.Need-three-requires
-three-requires c κs =
+in-force-requires : tie.Need-in-force-requires
+in-force-requires c κs =
     let s = c .before .before .before in
     held-p (s .args .m) (s .args .m .latest) (s .pre) (meter-parts (s .args .m) (s .pre) .latest)
 
-three-requires-2 : tie.Need-three-requires-2
-three-requires-2 c κs =
+in-force-requires-2 : tie.Need-in-force-requires-2
+in-force-requires-2 c κs =
     let s = c .before .before .before in
     held-q (s .args .m) (s .args .m .latest) (s .pre) (meter-parts (s .args .m) (s .pre) .latest)
 
@@ -41,11 +41,11 @@ of-requires-6 c κs = search needs
 
 returns : tie.Need-returns
 unfolding powerAt
-returns c = rw (c .before .match .keys1) (c .three .ensures)
+returns c = rw (c .before .match .keys1) (c .in-force .ensures)
 
 returns-2 : tie.Need-returns-2
 unfolding powerAt
-returns-2 c = rw (c .before .match .keys2) (c .three2 .ensures)
+returns-2 c = rw (c .before .match .keys2) (c .in-force2 .ensures)
 
 returns-3 : tie.Need-returns-3
 unfolding powerAt
@@ -88,14 +88,14 @@ unfolding powerAt
 returns-9 c =
     let s = c .before .before .before in
     let past = number-past (s .args .which) 0 8 zero-le (c .match .rest) in
-    sym (List·getD-eq-default (powersOf (s .args .m .latest)) (record { negative = false; magnitude = 0 }) past)
+    sym (List·getD-eq-default (powersOf (s .args .m)) (record { negative = false; magnitude = 0 }) past)
 
 pub power-at-spec : {M : Type 1} → statement M
 power-at-spec =
     tie.close
     (tie.spec
-    three-requires
-    three-requires-2
+    in-force-requires
+    in-force-requires-2
     of-requires
     of-requires-2
     of-requires-3

@@ -15,7 +15,7 @@ power-at-requires c κs = search needs
 cast-twos-long : tie.Need-cast-twos-long
 cast-twos-long c =
     let s = c .before .before in
-    let most = powers-fit .signed (meterT (s .args .m)) (powerAt (s .args .m .latest) (s .args .which) .magnitude) (power-most (s .args .m) (s .args .which) (s .pre)) in
+    let most = powers-fit .signed (meterT (s .args .m)) (powerAt (s .args .m) (s .args .which) .magnitude) (power-most (s .args .m) (s .args .which) (s .pre)) in
     rw (c .before .power-at .ensures) (record { fits = omega (arith, most) })
 
 twos-long-requires : tie.Need-twos-long-requires

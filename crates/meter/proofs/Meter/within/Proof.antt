@@ -11,26 +11,22 @@ within-requires c κs = search needs
 within-requires-2 : tie.Need-within-requires-2
 within-requires-2 c κs = search needs
 
-within-requires-3 : tie.Need-within-requires-3
-within-requires-3 c κs = search needs
-
 tenths-requires : tie.Need-tenths-requires
 tenths-requires c κs = search needs
+
+within-requires-3 : tie.Need-within-requires-3
+within-requires-3 c κs = search needs
 
 within-requires-4 : tie.Need-within-requires-4
 within-requires-4 c κs = search needs
 
-setup-within-requires : tie.Need-setup-within-requires
-setup-within-requires c κs = search needs
-
 returns : tie.Need-returns
 unfolding meterOk
 returns c =
-    let e = c .before in
-    let t = e .before in
-    let q = t .before in
-    let p = q .before in
-    rw (p .before .within .ensures, p .within2 .ensures, q .within3 .ensures, e .within4 .ensures, t .tenths .ensures, c .setup-within .ensures) refl
+    let s = c .before in
+    let t = s .before in
+    let k = t .before in
+    rw (k .before .within .ensures, k .within2 .ensures, s .within3 .ensures, t .tenths .ensures, c .within4 .ensures) refl
 
 pub within-spec : {M : Type 1} → statement M
 within-spec =
@@ -38,8 +34,7 @@ within-spec =
     (tie.spec
     within-requires
     within-requires-2
-    within-requires-3
     tenths-requires
+    within-requires-3
     within-requires-4
-    setup-within-requires
     returns)

@@ -1,8 +1,8 @@
 -- Each call tells its part of the definition.
 use mathlib.Core.Path.{refl}
 use borrow.Author.Needs.{needs}
-use Rattle.meter.proofs.Meter.within_top.Statement.{statement}
-use Rattle.meter.proofs.Meter.within_top.Tie as tie
+use Rattle.meter.proofs.energies.Counters.within_top.Statement.{statement}
+use Rattle.meter.proofs.energies.Counters.within_top.Tie as tie
 
 within-top-requires : tie.Need-within-top-requires
 within-top-requires c κs = search needs

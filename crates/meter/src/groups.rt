@@ -1,0 +1,29 @@
+// The setup groups (paper 01, "The meter's record"). They are kept and alter no measurement.
+ghost use mathlib.Core.Path.{_≡_};
+ghost use Rattle.meter.specs.Groups.{setupOk, noSetup};
+
+pub struct Setup {
+    // Words from 0x2000 and from 0x2200 on.
+    pub standard: [u16; 16],
+    pub output: [u16; 24],
+}
+
+impl Setup {
+    // The setup of a new meter: every word 0.
+    pub(crate) fn none() -> Setup
+        ensures { λ r. ⌜ r ≡ noSetup ⌝ }
+    {
+        Setup {
+            standard: [0u16; 16],
+            output: [0u16; 24],
+        }
+    }
+
+    pub(crate) fn within(self) -> bool
+        ensures { λ r. ⌜ r ≡ setupOk self ⌝ }
+    {
+        let standard = self.standard;
+        let output = self.output;
+        setup::standard_ok(standard) & setup::output_ok(output)
+    }
+}
