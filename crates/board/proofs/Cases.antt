@@ -9,49 +9,51 @@ use lib.Seq.{sets}
 use borrow.Author.Tests.{eq-eqb, ne-eqb, eqb-true}
 use Rattle.refusal.specs.declared.Refusal.the-variants.{MeterOutOfLimits, BufferShort}
 use Rattle.refusal.specs.declared.ErrorCode.the-variants.{Function}
+use Rattle.directory.specs.Views.{View}
 use Rattle.modbus.specs.Frame.{addressOf, functionOf, silence, isRead, isWrite}
 use Rattle.modbus.specs.Replies.{errorReply}
 use Rattle.meter.specs.declared.Meter.{Meter}
 use Rattle.meter.specs.Meters.{meterOk}
+use Rattle.registers.specs.Shown.{shownOf}
 use Rattle.board.specs.declared.Reply.the-variants.{Sent}
 use Rattle.store.specs.declared.Verdict.{Verdict}
 use Rattle.store.specs.declared.Written.{Written}
 use Rattle.board.specs.Reads.{readReply}
 use Rattle.store.specs.Writes.{writtenOf}
-use Rattle.board.specs.Board.{Outcome, Allowed, refusedOf, silentOf, replyOf, writeReply, obeyedOf, boardOf}
+use Rattle.board.specs.Board.{Outcome, Allowed, refusedOf, silentOf, replyOf, writeReply, obeyedIn, boardIn}
 
 -- what is defined is allowed
 pub allowed : {x y : Outcome} → x ≡ y → Allowed y (x .handled) (x .buffer)
 allowed e = record { handled = ap (λ (o : Outcome). o .handled) e; bytes = ap (λ (o : Outcome). o .buffer) e }
 
-module _ (m : Meter) (frame buffer : List ℕ) where
-  pub board-1 : meterOk m ≡ false → refusedOf MeterOutOfLimits m buffer ≡ boardOf m frame buffer
-  unfolding boardOf
+module _ (v : View) (m : Meter) (frame buffer : List ℕ) where
+  pub board-1 : meterOk m ≡ false → refusedOf MeterOutOfLimits m buffer ≡ boardIn v m frame buffer
+  unfolding boardIn
   board-1 h = rw h refl
 
-  pub board-2 : meterOk m ≡ true → ltb (length buffer) 256 ≡ true → refusedOf BufferShort m buffer ≡ boardOf m frame buffer
-  unfolding boardOf
+  pub board-2 : meterOk m ≡ true → ltb (length buffer) 256 ≡ true → refusedOf BufferShort m buffer ≡ boardIn v m frame buffer
+  unfolding boardIn
   board-2 h b = rw (h, b) refl
 
-  pub board-silent : meterOk m ≡ true → ltb (length buffer) 256 ≡ false → silence (m .given .address) frame ≡ true → silentOf m buffer ≡ boardOf m frame buffer
-  unfolding boardOf
+  pub board-silent : meterOk m ≡ true → ltb (length buffer) 256 ≡ false → silence (m .given .address) frame ≡ true → silentOf m buffer ≡ boardIn v m frame buffer
+  unfolding boardIn
   board-silent h b s = rw (h, b, s) refl
 
-  pub board-obeys : meterOk m ≡ true → ltb (length buffer) 256 ≡ false → silence (m .given .address) frame ≡ false → obeyedOf m frame buffer ≡ boardOf m frame buffer
-  unfolding boardOf
+  pub board-obeys : meterOk m ≡ true → ltb (length buffer) 256 ≡ false → silence (m .given .address) frame ≡ false → obeyedIn v m frame buffer ≡ boardIn v m frame buffer
+  unfolding boardIn
   board-obeys h b s = rw (h, b, s) refl
 
   -- a write is no read
   pub write-only : isWrite frame ≡ true → isRead frame ≡ false
   write-only w = ap (λ (f : ℕ). eqb f 0x03) (eqb-true (functionOf frame) 0x10 w)
 
-  pub obeys-other : isRead frame ≡ false → isWrite frame ≡ false → replyOf frame (errorReply frame Function) m buffer ≡ obeyedOf m frame buffer
+  pub obeys-other : isRead frame ≡ false → isWrite frame ≡ false → replyOf frame (errorReply frame Function) m buffer ≡ obeyedIn v m frame buffer
   obeys-other r w = rw (r, w) refl
 
-  pub obeys-read : isRead frame ≡ true → replyOf frame (readReply m frame) m buffer ≡ obeyedOf m frame buffer
+  pub obeys-read : isRead frame ≡ true → replyOf frame (readReply v (shownOf m) frame) m buffer ≡ obeyedIn v m frame buffer
   obeys-read r = rw r refl
 
-  pub obeys-write : isWrite frame ≡ true → replyOf frame (writeReply frame (writtenOf m frame .verdict)) (writtenOf m frame .meter) buffer ≡ obeyedOf m frame buffer
+  pub obeys-write : isWrite frame ≡ true → replyOf frame (writeReply frame (writtenOf m frame .verdict)) (writtenOf m frame .meter) buffer ≡ obeyedIn v m frame buffer
   obeys-write w = rw (write-only w, w) refl
 
   -- for all meters, and for this one
@@ -61,26 +63,26 @@ module _ (m : Meter) (frame buffer : List ℕ) where
   to-one : (bytes : List ℕ) (n : Meter) → (addressOf frame ≡ 0 → ⊥) → (k : ℕ) (after : List ℕ) → k ≡ length bytes → after ≡ sets buffer 0 bytes → record { handled = record { reply = Sent k; meter = n }; buffer = after } ≡ replyOf frame bytes n buffer
   to-one bytes n z k after l s = rw (ne-eqb (addressOf frame) 0 z, l, s) refl
 
-  pub read-sent : isRead frame ≡ true → (addressOf frame ≡ 0 → ⊥) → (k : ℕ) (after : List ℕ) → k ≡ length (readReply m frame) → after ≡ sets buffer 0 (readReply m frame) → record { handled = record { reply = Sent k; meter = m }; buffer = after } ≡ obeyedOf m frame buffer
-  read-sent r z k after l s = to-one (readReply m frame) m z k after l s ∙ obeys-read r
+  pub read-sent : isRead frame ≡ true → (addressOf frame ≡ 0 → ⊥) → (k : ℕ) (after : List ℕ) → k ≡ length (readReply v (shownOf m) frame) → after ≡ sets buffer 0 (readReply v (shownOf m) frame) → record { handled = record { reply = Sent k; meter = m }; buffer = after } ≡ obeyedIn v m frame buffer
+  read-sent r z k after l s = to-one (readReply v (shownOf m) frame) m z k after l s ∙ obeys-read r
 
-  pub other-sent : isRead frame ≡ false → isWrite frame ≡ false → (addressOf frame ≡ 0 → ⊥) → (k : ℕ) (after : List ℕ) → k ≡ length (errorReply frame Function) → after ≡ sets buffer 0 (errorReply frame Function) → record { handled = record { reply = Sent k; meter = m }; buffer = after } ≡ obeyedOf m frame buffer
+  pub other-sent : isRead frame ≡ false → isWrite frame ≡ false → (addressOf frame ≡ 0 → ⊥) → (k : ℕ) (after : List ℕ) → k ≡ length (errorReply frame Function) → after ≡ sets buffer 0 (errorReply frame Function) → record { handled = record { reply = Sent k; meter = m }; buffer = after } ≡ obeyedIn v m frame buffer
   other-sent r w z k after l s = to-one (errorReply frame Function) m z k after l s ∙ obeys-other r w
 
-  pub unwritten : isWrite frame ≡ false → addressOf frame ≡ 0 → silentOf m buffer ≡ obeyedOf m frame buffer
+  pub unwritten : isWrite frame ≡ false → addressOf frame ≡ 0 → silentOf m buffer ≡ obeyedIn v m frame buffer
   unwritten w z = by (isRead frame) refl
     where
-      by : (b : Bool) → isRead frame ≡ b → silentOf m buffer ≡ obeyedOf m frame buffer
-      by true r = to-all (readReply m frame) m z ∙ obeys-read r
+      by : (b : Bool) → isRead frame ≡ b → silentOf m buffer ≡ obeyedIn v m frame buffer
+      by true r = to-all (readReply v (shownOf m) frame) m z ∙ obeys-read r
       by false r = to-all (errorReply frame Function) m z ∙ obeys-other r w
 
   module _ (h : isWrite frame ≡ true) (w : Written) (e : w ≡ writtenOf m frame) where
-    pub write-silent : addressOf frame ≡ 0 → silentOf (w .meter) buffer ≡ obeyedOf m frame buffer
+    pub write-silent : addressOf frame ≡ 0 → silentOf (w .meter) buffer ≡ obeyedIn v m frame buffer
     write-silent z = rw e (to-all (writeReply frame (writtenOf m frame .verdict)) (writtenOf m frame .meter) z ∙ obeys-write h)
 
-    pub write-sent : (addressOf frame ≡ 0 → ⊥) → (v : Verdict) → w .verdict ≡ v → (k : ℕ) (after : List ℕ) → k ≡ length (writeReply frame v) → after ≡ sets buffer 0 (writeReply frame v) → record { handled = record { reply = Sent k; meter = w .meter }; buffer = after } ≡ obeyedOf m frame buffer
-    write-sent z v q k after l s =
-        let p : v ≡ writtenOf m frame .verdict = sym q ∙ ap (λ (x : Written). x .verdict) e in
+    pub write-sent : (addressOf frame ≡ 0 → ⊥) → (said : Verdict) → w .verdict ≡ said → (k : ℕ) (after : List ℕ) → k ≡ length (writeReply frame said) → after ≡ sets buffer 0 (writeReply frame said) → record { handled = record { reply = Sent k; meter = w .meter }; buffer = after } ≡ obeyedIn v m frame buffer
+    write-sent z said q k after l s =
+        let p : said ≡ writtenOf m frame .verdict = sym q ∙ ap (λ (x : Written). x .verdict) e in
         let l' = l ∙ ap (λ (x : Verdict). length (writeReply frame x)) p in
         let s' = s ∙ ap (λ (x : Verdict). sets buffer 0 (writeReply frame x)) p in
         rw e (to-one (writeReply frame (writtenOf m frame .verdict)) (writtenOf m frame .meter) z k after l' s' ∙ obeys-write h)

@@ -1,5 +1,2 @@
 pub mod Sent
 pub mod Cases
-pub mod Views
-pub mod Replies
-pub mod Answers

@@ -1,4 +1,5 @@
--- Paper 01, "What the meter does with a frame": its five steps in their order, first that applies, and address 0.
+-- Paper 01, "What the meter does with a frame": its five steps in their order, first that applies, and address 0. Reads go by a view, a
+-- directory and the most words of a read.
 use mathlib.Core.Path.{_≡_}
 use Prim.Native.Nat.{ℕ}
 use mathlib.Core.Bool.{_&&_, not, cond}
@@ -9,10 +10,12 @@ use lib.Seq.{sets}
 use Rattle.refusal.specs.declared.Refusal.{Refusal}
 use Rattle.refusal.specs.declared.Refusal.the-variants.{MeterOutOfLimits, BufferShort}
 use Rattle.refusal.specs.declared.ErrorCode.the-variants.{Function}
+use Rattle.directory.specs.Views.{View, own}
 use Rattle.modbus.specs.Frame.{addressOf, silence, isRead, isWrite}
 use Rattle.modbus.specs.Replies.{errorReply, echoReply}
 use Rattle.meter.specs.declared.Meter.{Meter}
 use Rattle.meter.specs.Meters.{meterOk}
+use Rattle.registers.specs.Shown.{shownOf}
 use Rattle.board.specs.declared.Reply.the-variants.{Silent, Sent, Refused}
 use Rattle.board.specs.declared.Handled.{Handled}
 use Rattle.board.specs.Reads.{readReply}
@@ -52,22 +55,26 @@ writeReply frame (Wrong code) = errorReply frame code
 writeReply frame Good = echoReply frame
 
 -- what is done with a frame that the meter heeds: steps 3 to 5
-abbrev pub obeyedOf : Meter → List ℕ → List ℕ → Outcome
-obeyedOf m frame buffer =
+abbrev pub obeyedIn : View → Meter → List ℕ → List ℕ → Outcome
+obeyedIn v m frame buffer =
     -- 3. Function neither 0x03 nor 0x10: error 01
     cond (not (isRead frame) && not (isWrite frame)) (replyOf frame (errorReply frame Function) m buffer)
     -- 4. 0x03: error 03 or 02, else data
-    (cond (isRead frame) (replyOf frame (readReply m frame) m buffer)
+    (cond (isRead frame) (replyOf frame (readReply v (shownOf m) frame) m buffer)
     -- 5. 0x10: error 03 or 02, else the group is stored and echoed. Only a stored write alters the record
     (replyOf frame (writeReply frame (writtenOf m frame .verdict)) (writtenOf m frame .meter) buffer))
 
--- what the meter does with a frame: the first that applies
-unfoldable pub boardOf : Meter → List ℕ → List ℕ → Outcome
-boardOf m frame buffer =
+-- what the meter does with a frame, over a view: the first that applies
+unfoldable pub boardIn : View → Meter → List ℕ → List ℕ → Outcome
+boardIn v m frame buffer =
     -- 1. Record out of limits: refusal 1. Reply buffer under 256 bytes: refusal 2
     cond (not (meterOk m)) (refusedOf MeterOutOfLimits m buffer)
     (cond (ltb (length buffer) 256) (refusedOf BufferShort m buffer)
     -- 2. Silence
     (cond (silence (m .given .address) frame) (silentOf m buffer)
     -- 3. to 5.
-    (obeyedOf m frame buffer)))
+    (obeyedIn v m frame buffer)))
+
+-- and over paper 01's own
+abbrev pub boardOf : Meter → List ℕ → List ℕ → Outcome
+boardOf m frame buffer = boardIn own m frame buffer

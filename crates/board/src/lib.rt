@@ -7,7 +7,8 @@ ghost use Prim.Native.Nat.{_≤_};
 ghost use lib.ListN.{length};
 ghost use Rattle.modbus.specs.Frame.{silence, isWrite};
 ghost use Rattle.meter.specs.Meters.{meterOk};
-ghost use Rattle.board.specs.Board.{Allowed, obeyedOf, boardOf};
+ghost use Rattle.directory.specs.Views.{own};
+ghost use Rattle.board.specs.Board.{Allowed, obeyedIn, boardOf};
 use meter::Meter;
 use refusal::ErrorCode;
 use refusal::Refusal;
@@ -53,7 +54,7 @@ fn obey(meter: Meter, frame: &[u8], buffer: &mut [u8]) -> Handled
     requires { ⌜ meterOk meter ≡ true ⌝ }
     requires { ⌜ silence (meter .given .address) (now frame) ≡ false ⌝ }
     requires { ⌜ 256 ≤ length (now buffer) ⌝ }
-    ensures { λ r. ⌜ Allowed (obeyedOf meter (now (frame .entry)) (now (buffer .entry))) r (now (buffer .exit)) ⌝ }
+    ensures { λ r. ⌜ Allowed (obeyedIn own meter (now (frame .entry)) (now (buffer .entry))) r (now (buffer .exit)) ⌝ }
 {
     if frame[1] == modbus::WRITE {
         return write(meter, frame, buffer);
@@ -76,7 +77,7 @@ fn write(meter: Meter, frame: &[u8], buffer: &mut [u8]) -> Handled
     requires { ⌜ silence (meter .given .address) (now frame) ≡ false ⌝ }
     requires { ⌜ isWrite (now frame) ≡ true ⌝ }
     requires { ⌜ 256 ≤ length (now buffer) ⌝ }
-    ensures { λ r. ⌜ Allowed (obeyedOf meter (now (frame .entry)) (now (buffer .entry))) r (now (buffer .exit)) ⌝ }
+    ensures { λ r. ⌜ Allowed (obeyedIn own meter (now (frame .entry)) (now (buffer .entry))) r (now (buffer .exit)) ⌝ }
 {
     let written = store::write(meter, frame);
     let next = written.meter;

@@ -327,11 +327,11 @@ same-address request reply h =
     let n = neither (not (eqb (addressOf reply) (addressOf request))) _ h in
     eqb-true (addressOf reply) (addressOf request) (not-false _ (n .0))
 
-pub exactly-when : ExactlyWhen
-exactly-when = record { rows = rows }
+pub exactly-when : (v : View) → T (passes v) → ExactlyWhen v
+exactly-when v good = record { rows = rows v good }
 
-pub not-misread : NotMisread
-not-misread = record {
-  reading = λ v good request reply r index q h. let f = rows v good request reply r index .reading q .0 h .holds .fits in (f .sound .whole, same-address request reply (f .sound .own), fitting request reply (f .fits));
-  error = λ v good request reply r index code h. let s = rows v good request reply r index .error (errorNumber code) .0 (ap told h) .sound in (s .whole, same-address request reply (s .own));
+pub not-misread : (v : View) → T (passes v) → NotMisread v
+not-misread v good = record {
+  reading = λ request reply r index q h. let f = rows v good request reply r index .reading q .0 h .holds .fits in (f .sound .whole, same-address request reply (f .sound .own), fitting request reply (f .fits));
+  error = λ request reply r index code h. let s = rows v good request reply r index .error (errorNumber code) .0 (ap told h) .sound in (s .whole, same-address request reply (s .own));
 }

@@ -5,7 +5,7 @@ use mathlib.Core.Logic.{_↔_, _⊎_}
 use Prim.Native.Nat.{ℕ, _+_, _*_, _≤_, _<_}
 use mathlib.Core.Bool.{Bool, true, false, _||_, not}
 use mathlib.Core.List.{List}
-use lib.Dec.{T, ltb, eqb}
+use lib.Dec.{ltb, eqb}
 use lib.ListN.{length, getD}
 use Rattle.refusal.specs.declared.ErrorCode.{ErrorCode}
 use Rattle.refusal.specs.Numbers.{refusedBy, errorBy}
@@ -19,7 +19,7 @@ use Rattle.directory.specs.declared.Item.{Item}
 use Rattle.directory.specs.declared.Span.the-variants.{Items}
 use Rattle.directory.specs.Item.{none}
 use Rattle.directory.specs.Run.{runItems}
-use Rattle.directory.specs.Views.{View, passes}
+use Rattle.directory.specs.Views.{View}
 use Rattle.modbus.specs.Frame.{addressOf, wordNumber}
 use Rattle.modbus.specs.Read.{readIn}
 use Rattle.reading.specs.declared.Quantity.{Quantity}
@@ -33,7 +33,8 @@ use Rattle.collector.specs.Collector.{heard, lengthWrong, isReadError, f
 abbrev pub errorMisfit : List ℕ → Bool
 errorMisfit reply = not (eqb (length reply) 5) || (ltb (thirdOf reply) 1 || ltb 3 (thirdOf reply))
 
--- by the view of the meter that was asked
+-- ---- by the view of the meter that was asked
+
 module _ (v : View) where
   -- a read that a meter of that own address, 1 to 255, answers with data, and the items that it asks for
   pub record Asks (request : List ℕ) : Type 0 where
@@ -131,20 +132,18 @@ module _ (v : View) where
     pub error : (code : ℕ) → Comes request reply r index (errorBy code) ↔ Errs request reply r code
     pub reading : (q : Quantity) → (collectorIn v request reply r index ≡ Reading q) ↔ Reads request reply r index q
 
--- STATEMENT: over every view that passes the tests, each refusal, each error code and each reading is given exactly when its row or rule says
-pub record ExactlyWhen : Type 0 where
-  pub rows : (v : View) → T (passes v) → (request reply : List ℕ) (r : Ratios) (index : ℕ) → Rows v request reply r index
+  -- STATEMENT: each refusal, each error code and each reading is given exactly when its row or rule says
+  pub record ExactlyWhen : Type 0 where
+    pub rows : (request reply : List ℕ) (r : Ratios) (index : ℕ) → Rows request reply r index
 
--- STATEMENT: nothing is read out of a reply whose CRC is wrong, whose address is another's, or whose words are not as many as were asked
-pub record NotMisread : Type 0 where
-  pub reading :
-      (v : View) → T (passes v) → (request reply : List ℕ) (r : Ratios) (index : ℕ) (q : Quantity) →
-      collectorIn v request reply r index ≡ Reading q →
-      (intact reply ≡ true) × (addressOf reply ≡ addressOf request) × (length reply ≡ 5 + 2 * wordNumber request)
-  pub error :
-      (v : View) → T (passes v) → (request reply : List ℕ) (r : Ratios) (index : ℕ) (code : ErrorCode) →
-      collectorIn v request reply r index ≡ Error code →
-      (intact reply ≡ true) × (addressOf reply ≡ addressOf request)
+  -- STATEMENT: nothing is read out of a reply whose CRC is wrong, whose address is another's, or whose words are not as many as were asked
+  pub record NotMisread : Type 0 where
+    pub reading :
+        (request reply : List ℕ) (r : Ratios) (index : ℕ) (q : Quantity) → collectorIn v request reply r index ≡ Reading q →
+        (intact reply ≡ true) × (addressOf reply ≡ addressOf request) × (length reply ≡ 5 + 2 * wordNumber request)
+    pub error :
+        (request reply : List ℕ) (r : Ratios) (index : ℕ) (code : ErrorCode) → collectorIn v request reply r index ≡ Error code →
+        (intact reply ≡ true) × (addressOf reply ≡ addressOf request)
 
 -- STATEMENT: joining: 3 (counts only), then 14, exactly when count, Low or High is over its top, and no other number
 pub record JoinsWhen : Type 0 where

@@ -43,9 +43,13 @@ module _ (v : View) (h : T (passes v)) where
   pub passes-ruled : T (ruled (v .seen))
   passes-ruled = tested-ruled (v .seen) passes-tested
 
+  -- an L may be asked for
+  pub passes-long : 2 ≤ v .most
+  passes-long = leb→le _ _ (left (leb 2 (v .most)) _ (right (tested (v .seen)) _ h))
+
   -- a reply of the most words has room in a frame
   pub passes-room : 5 + 2 * v .most ≤ 256
-  passes-room = leb→le _ _ (right (tested (v .seen)) _ h)
+  passes-room = leb→le _ _ (right (leb 2 (v .most)) _ (right (tested (v .seen)) _ h))
 
 -- ---- a run of a table that is lent
 

@@ -16,9 +16,9 @@ pub record View : Type 0 where
   pub seen : List Item
   pub most : ℕ
 
--- its tests: those of a directory; and a reply of the most words, with its head and CRC, has room in a frame
+-- its tests: those of a directory; an L may be asked for; and a reply of the most words, with its head and CRC, has room in a frame
 abbrev pub passes : View → Bool
-passes v = tested (v .seen) && leb (5 + 2 * v .most) 256
+passes v = tested (v .seen) && (leb 2 (v .most) && leb (5 + 2 * v .most) 256)
 
 -- paper 01's own: the 142 items, and 120 words
 abbrev pub own : View

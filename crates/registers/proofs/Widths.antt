@@ -1,11 +1,11 @@
 -- The values beside the widths of their quantities: the lists are as long as each other, and each value fits its bytes.
 use mathlib.Core.Path.{_≡_, refl, sym, ap, _∙_}
-use mathlib.Core.Bool.{Bool, true, false, and-eq-true-iff}
+use mathlib.Core.Bool.{Bool, true, false, _&&_, and-eq-true-iff}
 use mathlib.Core.List.{List, [], _∷_, _++_}
 use Prim.Native.Nat.{ℕ, zero, suc, _+_, _/_, _%_, _^_, _≤_, _<_}
 use native.Mathlib.Nat.{lt-of-lt-of-le, pow-le-pow-right}
 use native.Mathlib.Omega.{arith}
-use lib.Dec.{eqb, leb}
+use lib.Dec.{T, eqb, leb}
 use borrow.Author.Tests.{eqb-true, eqb-false, leb-true}
 use lib.ListN.{length, getD, take, replicate, getD-replicate, length-append, List·getD-append}
 use Rattle.words.proofs.Signs.{twos-fits}
@@ -13,9 +13,9 @@ use Rattle.signed.proofs.Signs.{sign-most}
 use Rattle.ratio.proofs.Powers.{powers-fit}
 use Rattle.counts.proofs.Joins.{counts-fit}
 use Rattle.directory.specs.Quantity.{quantity, energyCount, low, high, wrap, widths, widthOf}
-use Rattle.directory.specs.Order.{roomOf}
-use Rattle.directory.specs.Table.{directory}
+use Rattle.directory.specs.declared.Item.{Item}
 use Rattle.directory.specs.Item.{none}
+use Rattle.directory.specs.Order.{roomOf, tested}
 use Rattle.directory.proofs.ByKind.{_also_}
 use Rattle.directory.proofs.Rules.{directory-rules}
 use Rattle.meter.specs.declared.groups.Setup.{Setup}
@@ -200,27 +200,31 @@ module _ (m : Meter) (typed : Typed m) (h : meterOk m ≡ true) where
   unfolding shownOf
   fits q = fit-at (getD (valuesOf m) (q / 64) []) (getD widths (q / 64) []) (fits-at (valuesOf m) widths values-fit (q / 64)) (q % 64)
 
--- ---- and so for the items of the directory
+-- ---- and so for the items of a directory that passes the tests
 
-known : (i : ℕ) → i < length directory → (1 ≤ widthOf (getD directory i none .quantity)) × (widthOf (getD directory i none .quantity) ≤ roomOf (getD directory i none))
-known i h =
-    let it = getD directory i none in
-    let t = and-eq-true-iff (leb 1 (widthOf (it .quantity))) (leb (widthOf (it .quantity)) (roomOf it)) .0 (directory-rules .meanings i h) in
-    (leb-true _ _ (t .0), leb-true _ _ (t .1))
+module _ (dir : List Item) (tests : T (tested dir)) (i : ℕ) (inside : i < length dir) where
+  abbrev it : Item
+  it = getD dir i none
 
--- what fits its bytes has room in its item
-pub in-room : (i : ℕ) → i < length directory → {v : ℕ} → v < 256 ^ widthOf (getD directory i none .quantity) → v < 256 ^ roomOf (getD directory i none)
-in-room i l fit = lt-of-lt-of-le fit (pow-le-pow-right (omega arith) (known i l .1))
+  known : (1 ≤ widthOf (it .quantity)) × (widthOf (it .quantity) ≤ roomOf it)
+  known =
+      let m = and-eq-true-iff (leb 1 (widthOf (it .quantity)) && leb (widthOf (it .quantity)) (roomOf it)) _ .0 (directory-rules .meanings dir tests i inside) in
+      let t = and-eq-true-iff (leb 1 (widthOf (it .quantity))) (leb (widthOf (it .quantity)) (roomOf it)) .0 (m .0) in
+      (leb-true _ _ (t .0), leb-true _ _ (t .1))
 
-pub typed-shows : (m : Meter) → Typed m → meterOk m ≡ true → (i : ℕ) → i < length directory → Shows m (getD directory i none .quantity)
-typed-shows m typed h i l = record { case = case m typed h (getD directory i none .quantity) (known i l .0); fits = fits m typed h (getD directory i none .quantity) }
+  -- what fits its bytes has room in its item
+  pub in-room : {v : ℕ} → v < 256 ^ widthOf (it .quantity) → v < 256 ^ roomOf it
+  in-room fit = lt-of-lt-of-le fit (pow-le-pow-right (omega arith) (known .1))
+
+  pub typed-shows : (m : Meter) → Typed m → meterOk m ≡ true → Shows m (it .quantity)
+  typed-shows m typed h = record { case = case m typed h (it .quantity) (known .0); fits = fits m typed h (it .quantity) }
 
 pub every-case : EveryCase
 every-case = record {
   case = case;
   fits = fits;
-  known = λ i h. known i h .0;
-  room = λ m typed h i l. in-room i l (fits m typed h (getD directory i none .quantity));
+  known = λ dir tests i h. known dir tests i h .0;
+  room = λ dir tests m typed h i l. in-room dir tests i l (fits m typed h (getD dir i none .quantity));
 }
 
 unseen : (m : Meter) (setup : Setup) (k : ℕ) → k < 16 → getD (valuesOf (withSetup m setup)) k [] ≡ getD (valuesOf m) k []

@@ -4,11 +4,12 @@ use mathlib.Core.Path.{_≡_}
 use Prim.Native.Nat.{ℕ, _/_, _%_, _^_, _≤_, _<_}
 use mathlib.Core.Bool.{true}
 use mathlib.Core.List.{List, []}
+use lib.Dec.{T}
 use lib.ListN.{length, getD}
+use Rattle.directory.specs.declared.Item.{Item}
 use Rattle.directory.specs.Item.{none}
 use Rattle.directory.specs.Quantity.{widthOf}
-use Rattle.directory.specs.Order.{roomOf}
-use Rattle.directory.specs.Table.{directory}
+use Rattle.directory.specs.Order.{roomOf, tested}
 use Rattle.meter.specs.declared.samples.Sample.{Sample}
 use Rattle.meter.specs.declared.groups.Setup.{Setup}
 use Rattle.meter.specs.declared.Meter.{Meter}
@@ -38,14 +39,15 @@ pub record Typed (m : Meter) : Type 0 where
   pub latest : SampleTyped (m .latest)
   pub setup : SetupTyped (m .setup)
 
--- STATEMENT: a quantity of the directory is one of its kind's values; what a meter within limits shows of it fits its bytes, and the item
+-- STATEMENT: a quantity is one of its kind's values, and what a meter within limits shows of it fits its bytes; each item of a directory that
+-- passes the tests shows a quantity, and has room for it
 pub record EveryCase : Type 0 where
   pub case : (m : Meter) → Typed m → meterOk m ≡ true → (q : ℕ) → 1 ≤ widthOf q → q % 64 < length (getD (valuesOf m) (q / 64) [])
   pub fits : (m : Meter) → Typed m → meterOk m ≡ true → (q : ℕ) → shownOf m q < 256 ^ widthOf q
-  pub known : (i : ℕ) → i < length directory → 1 ≤ widthOf (getD directory i none .quantity)
+  pub known : (dir : List Item) → T (tested dir) → (i : ℕ) → i < length dir → 1 ≤ widthOf (getD dir i none .quantity)
   pub room :
-      (m : Meter) → Typed m → meterOk m ≡ true → (i : ℕ) → i < length directory →
-      shownOf m (getD directory i none .quantity) < 256 ^ roomOf (getD directory i none)
+      (dir : List Item) → T (tested dir) → (m : Meter) → Typed m → meterOk m ≡ true → (i : ℕ) → i < length dir →
+      shownOf m (getD dir i none .quantity) < 256 ^ roomOf (getD dir i none)
 
 -- STATEMENT: setup words alter no measurement: what is shown of every other kind is the same with others
 pub record SetupUnseen : Type 0 where

@@ -7,6 +7,7 @@ use borrow.Author.Needs.{needs}
 use borrow.Author.Tests.{not-true, not-false, lt-ltb, le-ltb}
 use Rattle.modbus.specs.Frame.{silence}
 use Rattle.meter.specs.Meters.{meterOk}
+use Rattle.directory.specs.Views.{own}
 use Rattle.board.proofs.Cases.{allowed, board-1, board-2, board-silent, board-obeys}
 use Rattle.board.proofs.handle.Statement.{statement}
 use Rattle.board.proofs.handle.Tie as tie
@@ -29,7 +30,7 @@ with-requires c κs = search needs
 returns : tie.Need-returns
 returns c =
     let s = c .before .before .before .before .before in
-    let b = allowed (board-1 (s .args .meter) (s .args .frame .now) (s .args .buffer .now) (sym (c .before .before .within .ensures) ∙ not-true _ (c .before .if1 .taken))) in
+    let b = allowed (board-1 own (s .args .meter) (s .args .frame .now) (s .args .buffer .now) (sym (c .before .before .within .ensures) ∙ not-true _ (c .before .if1 .taken))) in
     record { handled = c .with .ensures ∙ b .handled; bytes = b .bytes }
 
 with-requires-2 : tie.Need-with-requires-2
@@ -38,7 +39,7 @@ with-requires-2 c κs = search needs
 returns-2 : tie.Need-returns-2
 returns-2 c =
     let s = c .before .before .before .before .before .before in
-    let b = allowed (board-2 (s .args .meter) (s .args .frame .now) (s .args .buffer .now) (within (c .before .before)) (lt-ltb _ _ (c .before .if2 .taken))) in
+    let b = allowed (board-2 own (s .args .meter) (s .args .frame .now) (s .args .buffer .now) (within (c .before .before)) (lt-ltb _ _ (c .before .if2 .taken))) in
     record { handled = c .with2 .ensures ∙ b .handled; bytes = b .bytes }
 
 silence-requires : tie.Need-silence-requires
@@ -50,7 +51,7 @@ with-requires-3 c κs = search needs
 returns-3 : tie.Need-returns-3
 returns-3 c =
     let s = c .before .before .before .before .before .before .before .before in
-    let b = allowed (board-silent (s .args .meter) (s .args .frame .now) (s .args .buffer .now) (within (c .before .before .before .before)) (room (c .before .before .before)) (sym (c .before .before .silence .ensures) ∙ c .before .if3 .taken)) in
+    let b = allowed (board-silent own (s .args .meter) (s .args .frame .now) (s .args .buffer .now) (within (c .before .before .before .before)) (room (c .before .before .before)) (sym (c .before .before .silence .ensures) ∙ c .before .if3 .taken)) in
     record { handled = c .with3 .ensures ∙ b .handled; bytes = b .bytes }
 
 obey-requires : tie.Need-obey-requires
@@ -64,7 +65,7 @@ same-length c = search needs
 returns-4 : tie.Need-returns-4
 returns-4 c =
     let s = c .before .before .before .before .before .before .before .before .before .before .before in
-    let b = board-obeys (s .args .meter) (s .args .frame .now) (s .args .buffer .now) (within (c .before .before .before .before .before .before .before)) (room (c .before .before .before .before .before .before)) (heard (c .before .before .before .before)) in
+    let b = board-obeys own (s .args .meter) (s .args .frame .now) (s .args .buffer .now) (within (c .before .before .before .before .before .before .before)) (room (c .before .before .before .before .before .before)) (heard (c .before .before .before .before)) in
     let e = c .before .before .obey .ensures in
     record { handled = e .handled ∙ allowed b .handled; bytes = e .bytes ∙ allowed b .bytes }
 

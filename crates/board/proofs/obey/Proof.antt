@@ -4,6 +4,7 @@ use native.Mathlib.Omega.{arith}
 use borrow.Author.Needs.{needs}
 use borrow.Author.Tests.{eq-eqb, ne-eqb}
 use Rattle.modbus.proofs.Frames.{Heeded, heeded}
+use Rattle.directory.specs.Views.{own}
 use Rattle.board.proofs.Cases.{allowed, unwritten, read-sent, other-sent}
 use Rattle.board.proofs.obey.Statement.{statement}
 use Rattle.board.proofs.obey.Tie as tie
@@ -34,7 +35,7 @@ with-requires c κs = search needs
 returns-2 : tie.Need-returns-2
 returns-2 c =
     let s = c .before .before .before .before .before .before .before in
-    let b = allowed (unwritten (s .args .meter) (s .args .frame .now) (s .args .buffer .now) (ne-eqb _ _ (c .before .before .before .if1 .left)) (c .before .if2 .taken)) in
+    let b = allowed (unwritten own (s .args .meter) (s .args .frame .now) (s .args .buffer .now) (ne-eqb _ _ (c .before .before .before .if1 .left)) (c .before .if2 .taken)) in
     record { handled = c .with .ensures ∙ b .handled; bytes = b .bytes }
 
 shared-slice-read-if3 : tie.Need-shared-slice-read-if3
@@ -59,7 +60,7 @@ returns-3 : tie.Need-returns-3
 returns-3 c =
     let s = c .before .before .before .before .before .before .before .before .before .before .before .before in
     let e = c .before .before .read .ensures in
-    allowed (read-sent (s .args .meter) (s .args .frame .now) (s .args .buffer .now) (eq-eqb _ _ (c .before .before .before .before .if3 .taken)) (c .before .before .before .before .before .before .if2 .left) _ _ (e .0) (e .1))
+    allowed (read-sent own (s .args .meter) (s .args .frame .now) (s .args .buffer .now) (eq-eqb _ _ (c .before .before .before .before .if3 .taken)) (c .before .before .before .before .before .before .if2 .left) _ _ (e .0) (e .1))
 
 same-length-3 : tie.Need-same-length-3
 same-length-3 c = search needs
@@ -68,7 +69,7 @@ returns-4 : tie.Need-returns-4
 returns-4 c =
     let s = c .before .before .before .before .before .before .before .before .before .before .before .before in
     let e = c .before .before .put-error .ensures in
-    allowed (other-sent (s .args .meter) (s .args .frame .now) (s .args .buffer .now) (ne-eqb _ _ (c .before .before .before .before .if3 .left)) (ne-eqb _ _ (c .before .before .before .before .before .before .before .before .if1 .left)) (c .before .before .before .before .before .before .if2 .left) _ _ (e .0) (e .1))
+    allowed (other-sent own (s .args .meter) (s .args .frame .now) (s .args .buffer .now) (ne-eqb _ _ (c .before .before .before .before .if3 .left)) (ne-eqb _ _ (c .before .before .before .before .before .before .before .before .if1 .left)) (c .before .before .before .before .before .before .if2 .left) _ _ (e .0) (e .1))
 
 pub obey-spec : {M : Type 1} → statement M
 obey-spec =

@@ -5,6 +5,7 @@ use borrow.Author.Needs.{needs}
 use Rattle.modbus.proofs.Frames.{heeded, shaped-length}
 use Rattle.store.specs.declared.Verdict.the-variants.{Good, Wrong}
 use Rattle.store.specs.Writes.{writtenOf}
+use Rattle.directory.specs.Views.{own}
 use Rattle.board.proofs.Cases.{allowed, write-silent, write-sent}
 use Rattle.store.proofs.Verdicts.{write-when}
 use Rattle.board.proofs.write.Statement.{statement}
@@ -25,7 +26,7 @@ returns : tie.Need-returns
 returns c =
     let s = c .before .before .before .before .before .before .before in
     let w = c .before .before .before .before .write in
-    let b = allowed (write-silent (s .args .meter) (s .args .frame .now) (s .args .buffer .now) (s .pre .1 .0) (w .result) (w .ensures) (c .before .if1 .taken)) in
+    let b = allowed (write-silent own (s .args .meter) (s .args .frame .now) (s .args .buffer .now) (s .pre .1 .0) (w .result) (w .ensures) (c .before .if1 .taken)) in
     record { handled = c .with .ensures ∙ b .handled; bytes = b .bytes }
 
 enum-told : tie.Need-enum-told
@@ -55,7 +56,7 @@ returns-2 c =
     let w = c .before .before .before .before .before .before .before .before .before .write in
     let good : w .result .verdict ≡ Good = cc in
     let e = c .before .before .put-echo .ensures in
-    allowed (write-sent (s .args .meter) (s .args .frame .now) (s .args .buffer .now) (s .pre .1 .0) (w .result) (w .ensures) (c .before .before .before .before .before .before .if1 .left) Good good _ _ (e .0) (e .1))
+    allowed (write-sent own (s .args .meter) (s .args .frame .now) (s .args .buffer .now) (s .pre .1 .0) (w .result) (w .ensures) (c .before .before .before .before .before .before .if1 .left) Good good _ _ (e .0) (e .1))
 
 same-length-2 : tie.Need-same-length-2
 same-length-2 c = search needs
@@ -67,7 +68,7 @@ returns-3 c =
     let code = c .before .before .before .before .before .verdict .given .0 .0 in
     let wrong : w .result .verdict ≡ Wrong code = cc in
     let e = c .before .before .put-error .ensures in
-    allowed (write-sent (s .args .meter) (s .args .frame .now) (s .args .buffer .now) (s .pre .1 .0) (w .result) (w .ensures) (c .before .before .before .before .before .before .before .if1 .left) (Wrong code) wrong _ _ (e .0) (e .1))
+    allowed (write-sent own (s .args .meter) (s .args .frame .now) (s .args .buffer .now) (s .pre .1 .0) (w .result) (w .ensures) (c .before .before .before .before .before .before .before .if1 .left) (Wrong code) wrong _ _ (e .0) (e .1))
 
 pub write-spec : {M : Type 1} → statement M
 write-spec =

@@ -1,4 +1,4 @@
--- Each judgement of a read has its reply.
+-- Each judgement of a read has its reply, and the items that it asks for stand in a part of the table.
 use mathlib.Core.Path.{_≡_, ap, _∙_}
 use mathlib.Core.List.{List}
 use Prim.Native.Nat.{ℕ}
@@ -8,28 +8,28 @@ use lib.Seq.{sets}
 use Rattle.directory.specs.declared.Span.{Span}
 use Rattle.directory.specs.declared.Span.the-variants.{Items, Error}
 use Rattle.directory.specs.declared.Item.{Item}
-use Rattle.directory.specs.Table.{directory}
-use Rattle.directory.proofs.Rules.{directory-ruled, directory-rules, directory-room, directory-whole}
+use Rattle.directory.specs.Item.{items}
+use Rattle.directory.specs.Run.{runItems, wordsOf}
+use Rattle.directory.specs.Views.{View, viewOf}
+use Rattle.directory.proofs.Views.{passes-room, run-room, run-part, run-narrow}
 use Rattle.modbus.specs.Read.{readIn}
-use Rattle.meter.specs.declared.Meter.{Meter}
-use Rattle.board.specs.Reads.{readBytes, readReply}
+use Rattle.modbus.proofs.Judged.{LegalRead, legal-read}
+use Rattle.registers.specs.Shown.{shownOf}
+use Rattle.board.specs.Reads.{itemsSent, dataReply, readBytes, readReply}
 use borrow.Author.Needs.{needs}
 use Rattle.board.proofs.reads.along.Statement.{statement}
 use Rattle.board.proofs.reads.along.Tie as tie
 
--- the reply of a judgement is the reply of the read that is judged so
-replied : (m : Meter) (frame buffer : List ℕ) (span : Span) {k : ℕ} {after : List ℕ} → readIn directory frame ≡ span → (k ≡ length (readBytes m frame span)) × (after ≡ sets buffer 0 (readBytes m frame span)) → (k ≡ length (readReply m frame)) × (after ≡ sets buffer 0 (readReply m frame))
-replied m frame buffer span e h = rw e h
+-- what the table is seen as
+abbrev view : tie.Start → View
+view s = viewOf (s .args .t .now) (s .args .reach)
 
-judged : (r : tie.After-read-in) → r .read-in .result ≡ readIn directory (r .before .before .before .before .args .frame .now)
-judged r =
-    let s = r .before .before .before .before in
-    r .read-in .ensures ∙ ap (λ (dir : List Item). readIn dir (s .args .frame .now)) (directory-whole (s .args .t .now) (s .pre .0))
+-- the reply of a judgement is the reply of the read that is judged so
+replied : (v : View) (shown : ℕ → ℕ) (frame buffer : List ℕ) (span : Span) {k : ℕ} {after : List ℕ} → readIn v frame ≡ span → (k ≡ length (readBytes v shown frame span)) × (after ≡ sets buffer 0 (readBytes v shown frame span)) → (k ≡ length (readReply v shown frame)) × (after ≡ sets buffer 0 (readReply v shown frame))
+replied v shown frame buffer span e h = rw e h
 
 read-in-requires : tie.Need-read-in-requires
-read-in-requires c κs =
-    let s = c .before .before .before in
-    (omega (arith, directory-room (s .args .t .now) (s .pre .0), directory-rules .count), rw (s .pre .0) directory-ruled)
+read-in-requires c κs = c .before .before .before .pre .0
 
 enum-known-code : tie.Need-enum-known-code
 enum-known-code c = search needs
@@ -42,12 +42,31 @@ put-error-requires c κs =
 enum-known-first : tie.Need-enum-known-first
 enum-known-first c = search needs
 
+-- where the read asks for items
+abbrev start : tie.After-known-told2 → tie.Start
+start c = c .before .before .before .before .before .before .before
+
+found : (c : tie.After-known-told2) → readIn (view (start c)) (start c .args .frame .now) ≡ Items (c .before .first .given .0 .0) (c .before .first .given .0 .1 .0)
+found c = let j = c .before .before .before .read-in .ensures in cc
+
+legal : (c : tie.After-known-told2) → LegalRead (view (start c)) (start c .args .frame .now) (c .before .first .given .0 .0) (c .before .first .given .0 .1 .0)
+legal c = legal-read (view (start c)) (start c .pre .0 .good) (found c)
+
+part-requires : tie.Need-part-requires
+part-requires c κs = run-room (start c .args .t .now) (start c .args .reach) (start c .pre .0) _ _ (legal c .inside)
+
+-- the part that is lent holds the items asked for
+asked : (c : tie.After-part) → items (c .part .result .now) ≡ runItems (view (start (c .before)) .seen) (c .before .before .first .given .0 .0) (c .before .before .first .given .0 .1 .0)
+asked c =
+    let s = start (c .before) in
+    ap items (c .part .ensures) ∙ run-part (s .args .t .now) (s .args .reach) (s .pre .0) _ _ (legal (c .before) .inside)
+
 put-data-requires : tie.Need-put-data-requires
 put-data-requires c κs =
-    let s = c .before .before .before .before .before .before .before .before in
-    let j = judged (c .before .before .before .before) in
-    let found : readIn directory (s .args .frame .now) ≡ Items (c .before .before .first .given .0 .0) (c .before .before .first .given .0 .1 .0) = cc in
-    (s .pre .0, (s .pre .1 .0, (found, s .pre .1 .1 .1)))
+    let p = c .before in
+    let s = start (p .before) in
+    let l = legal (p .before) in
+    (rw (p .part .ensures) (run-narrow (s .args .t .now) (s .args .reach) (s .pre .0) _ _ (l .inside)), (s .pre .1 .0, ((l .long, ap wordsOf (asked p) ∙ l .sends), (omega (arith, l .most, passes-room (view s) (s .pre .0 .good)), s .pre .1 .1 .1))))
 
 same-length : tie.Need-same-length
 same-length c = search needs
@@ -55,21 +74,22 @@ same-length c = search needs
 returns : tie.Need-returns
 returns c =
     let s = c .before .before .before .before .before .before .before .before .before .before .before in
-    let j = judged (c .before .before .before .before .before .before .before) in
+    let j = c .before .before .before .before .before .before .before .read-in .ensures in
     let code = c .before .before .before .before .before .code .given .0 .0 in
-    let found : readIn directory (s .args .frame .now) ≡ Error code = cc in
-    replied (s .args .m) (s .args .frame .now) (s .args .buffer .now) (Error code) found (c .before .before .put-error .ensures)
+    let wrong : readIn (view s) (s .args .frame .now) ≡ Error code = cc in
+    replied (view s) (shownOf (s .args .m)) (s .args .frame .now) (s .args .buffer .now) (Error code) wrong (c .before .before .put-error .ensures)
 
 same-length-2 : tie.Need-same-length-2
 same-length-2 c = search needs
 
 returns-2 : tie.Need-returns-2
 returns-2 c =
-    let s = c .before .before .before .before .before .before .before .before .before .before .before in
-    let j = judged (c .before .before .before .before .before .before .before) in
-    let g = c .before .before .before .before .before .first .given .0 in
-    let found : readIn directory (s .args .frame .now) ≡ Items (g .0) (g .1 .0) = cc in
-    replied (s .args .m) (s .args .frame .now) (s .args .buffer .now) (Items (g .0) (g .1 .0)) found (c .before .before .put-data .ensures)
+    let p = c .before .before .before .before in
+    let s = start (p .before) in
+    let g = p .before .before .first .given .0 in
+    let e = c .before .before .put-data .ensures in
+    let same = ap (λ (its : List Item). dataReply (s .args .frame .now) (itemsSent (shownOf (s .args .m)) its)) (asked p) in
+    replied (view s) (shownOf (s .args .m)) (s .args .frame .now) (s .args .buffer .now) (Items (g .0) (g .1 .0)) (found (p .before)) (e .0 ∙ ap length same, e .1 ∙ ap (sets (s .args .buffer .now) 0) same)
 
 pub along-spec : {M : Type 1} → statement M
 along-spec =
@@ -79,6 +99,7 @@ along-spec =
     enum-known-code
     put-error-requires
     enum-known-first
+    part-requires
     put-data-requires
     same-length
     returns

@@ -1,70 +1,72 @@
--- What was written, with what is left of the run written behind it, is the whole run written; an item sends one word or two.
+-- What was written, with what is left written behind it, is all of it written; an item sends one word or two.
 use mathlib.Core.Path.{_≡_, refl, sym, ap, _∙_}
 use mathlib.Core.List.{List}
-use Prim.Native.Nat.{ℕ, _+_, _-_, _*_, _≤_}
+use Prim.Native.Nat.{ℕ, _+_, _-_, _*_, _≤_, _<_}
 use native.Mathlib.Omega.{arith}
-use lib.ListN.{length, getD}
+use lib.ListN.{length, getD, drop, drop-of-length-le}
 use lib.Seq.{sets, length-sets}
 use borrow.Author.Needs.{needs}
 use Rattle.words.specs.Words.{sent}
 use Rattle.directory.specs.declared.Item.{Item}
-use Rattle.directory.specs.Item.{none}
-use Rattle.directory.specs.Table.{directory}
-use Rattle.directory.specs.Run.{runItems, wordsOf}
-use Rattle.directory.proofs.Order.{Narrow}
-use Rattle.directory.proofs.Rules.{directory-rules, directory-room, directory-item}
+use Rattle.directory.specs.Item.{items, none}
+use Rattle.directory.specs.Run.{wordsOf}
+use Rattle.directory.proofs.Flat.{items-length}
+use Rattle.directory.proofs.Order.{Narrow, every-narrow}
 use Rattle.registers.specs.Shown.{shownOf}
 use Rattle.board.specs.Reads.{itemsSent}
-use Rattle.board.proofs.Sent.{left, left-all, left-none, words-on, sent-on}
+use Rattle.board.proofs.Sent.{words-on, sent-on}
 use Rattle.board.proofs.reads.put_items.Statement.{statement}
 use Rattle.board.proofs.reads.put_items.Tie as tie
 
 abbrev Inv-loop : tie.InvT-loop
-Inv-loop t m first count buffer₀ at₀ i₀ buffer at i =
-    (i ≤ count) ×
+Inv-loop asked m buffer₀ count at₀ i₀ buffer at i =
+    (i ≤ length (items asked)) ×
     (length buffer ≡ length buffer₀) ×
-    (at + 2 * wordsOf (left directory first count i) ≡ 3 + 2 * wordsOf (runItems directory first count)) ×
-    (sets buffer at (itemsSent m (left directory first count i)) ≡ sets buffer₀ 3 (itemsSent m (runItems directory first count)))
+    (at + 2 * wordsOf (drop i (items asked)) ≡ 3 + 2 * wordsOf (items asked)) ×
+    (sets buffer at (itemsSent (shownOf m) (drop i (items asked))) ≡ sets buffer₀ 3 (itemsSent (shownOf m) (items asked)))
 
 abbrev μ-loop : tie.MeasureT-loop
-μ-loop t m first count buffer₀ at₀ i₀ buffer at i = count - i
+μ-loop asked m buffer₀ count at₀ i₀ buffer at i = count - i
+
+count-requires : tie.Need-count-requires Inv-loop μ-loop
+count-requires c κs = search needs
 
 loop-holds : tie.Need-loop-holds Inv-loop μ-loop
-loop-holds c =
-    let a = c .before .before .args in
-    (omega arith, refl, rw (left-all directory (a .first) (a .count)) refl, rw (left-all directory (a .first) (a .count)) refl)
+loop-holds c = (omega arith, refl, refl, refl)
 
-add-item-at : tie.Need-add-item-at Inv-loop μ-loop
-add-item-at c = omega (arith, directory-rules .count, c .before .before .before .before .pre .1 .1 .0)
+-- the items that are sent
+abbrev its : tie.Start Inv-loop μ-loop → List Item
+its s = items (s .args .asked .now)
+
+below : (c : tie.In-loop Inv-loop μ-loop) → c .before .loop .i < length (its (c .before .before .before .before .before))
+below c = rw (c .before .before .count .ensures) at (c .loop-test .taken)
 
 item-at-requires : tie.Need-item-at-requires Inv-loop μ-loop
-item-at-requires c κs =
-    let s = c .before .before .before .before in
-    omega (arith, directory-room (s .args .t .now) (s .pre .0), s .pre .1 .1 .0)
+item-at-requires c κs = omega (arith, below c, items-length (c .before .before .before .before .before .args .asked .now))
 
--- it is the directory's, and sends one word or two
-found : (r : tie.After-item-at Inv-loop μ-loop) → (r .item-at .result ≡ getD directory (r .before .before .before .before .before .args .first + r .before .before .loop .i) none) × Narrow (r .item-at .result)
-found r =
-    let s = r .before .before .before .before .before in
-    directory-item (s .args .t .now) (s .pre .0) (s .args .first + r .before .before .loop .i) (omega (arith, s .pre .1 .1 .0)) (r .item-at .ensures)
+abbrev start : tie.After-item-at Inv-loop μ-loop → tie.Start Inv-loop μ-loop
+start r = r .before .before .before .before .before .before
 
--- and its words come off those that are left
-passed : (r : tie.After-item-at Inv-loop μ-loop) → wordsOf (left directory (r .before .before .before .before .before .args .first) (r .before .before .before .before .before .args .count) (r .before .before .loop .i)) ≡ r .item-at .result .words + wordsOf (left directory (r .before .before .before .before .before .args .first) (r .before .before .before .before .before .args .count) (r .before .before .loop .i + 1))
+narrow : (r : tie.After-item-at Inv-loop μ-loop) → Narrow (r .item-at .result)
+narrow r = rw (r .item-at .ensures) (every-narrow (its (start r)) (start r .pre .0) (r .before .before .loop .i) (below (r .before)))
+
+-- its words come off those that are left
+passed : (r : tie.After-item-at Inv-loop μ-loop) → wordsOf (drop (r .before .before .loop .i) (its (start r))) ≡ r .item-at .result .words + wordsOf (drop (r .before .before .loop .i + 1) (its (start r)))
 passed r =
-    let s = r .before .before .before .before .before in
-    rw (found r .0) (words-on directory (s .args .first) (s .args .count) (r .before .before .loop .i) (omega arith) (s .pre .1 .1 .0))
+    words-on (its (start r)) (r .before .before .loop .i) (below (r .before))
+    ∙ ap (λ (it : Item). it .words + wordsOf (drop (r .before .before .loop .i + 1) (its (start r)))) (sym (r .item-at .ensures))
 
 cast-put : tie.Need-cast-put Inv-loop μ-loop
 cast-put c = search needs
 
 shown-requires : tie.Need-shown-requires Inv-loop μ-loop
-shown-requires c κs = c .before .before .before .before .before .before .before .pre .1 .0
+shown-requires c κs = c .before .before .before .before .before .before .before .before .pre .1 .0
 
 put-requires : tie.Need-put-requires Inv-loop μ-loop
 put-requires c κs =
     let r = c .before .before .before in
     let l = r .before .before .loop in
-    (omega (arith, passed r, l .inv .1, l .inv .2, r .before .before .before .before .before .pre .1 .1 .1 .0, r .before .before .before .before .before .pre .1 .1 .1 .1), (found r .1 .some, found r .1 .few))
+    (omega (arith, passed r, l .inv .1, l .inv .2, start r .pre .1 .1), (narrow r .some, narrow r .few))
 
 cast-at : tie.Need-cast-at Inv-loop μ-loop
 cast-at c = search needs
@@ -75,8 +77,7 @@ mul-at c = search needs
 add-at : tie.Need-add-at Inv-loop μ-loop
 add-at c =
     let r = c .before .before .before .before .before .before .before in
-    let l = r .before .before .loop in
-    omega (arith, passed r, l .inv .2, r .before .before .before .before .before .pre .1 .1 .1 .0)
+    omega (arith, passed r, r .before .before .loop .inv .2, start r .pre .1 .1)
 
 add-i : tie.Need-add-i Inv-loop μ-loop
 add-i c = omega arith
@@ -89,11 +90,11 @@ loop-again c =
     let p = c .before .before .before in
     let r = p .before .before .before .before in
     let l = r .before .before .loop in
-    let s = r .before .before .before .before .before in
+    let s = start r in
     let it = r .item-at .result in
     let wrote : p .put .last .0 ≡ sets (l .buffer) (l .at) (sent (it .words) (shownOf (s .args .m) (it .quantity))) =
     p .put .ensures ∙ ap (λ (v : ℕ). sets (l .buffer) (l .at) (sent (it .words) v)) (p .before .shown .ensures) in
-    (omega arith, ap length wrote ∙ length-sets (l .buffer) (l .at) (sent (it .words) (shownOf (s .args .m) (it .quantity))) ∙ l .inv .1, omega (arith, passed r, l .inv .2), sent-on directory (s .args .first) (s .args .count) (l .i) (omega arith) (s .pre .1 .1 .0) (s .args .m) (l .buffer) _ (l .at) it (found r .0) wrote ∙ l .inv .3)
+    (omega (arith, below (r .before)), ap length wrote ∙ length-sets (l .buffer) (l .at) (sent (it .words) (shownOf (s .args .m) (it .quantity))) ∙ l .inv .1, omega (arith, passed r, l .inv .2), sent-on (its s) (l .i) (below (r .before)) (shownOf (s .args .m)) (l .buffer) _ (l .at) it (r .item-at .ensures) wrote ∙ l .inv .3)
 
 same-length : tie.Need-same-length Inv-loop μ-loop
 same-length c = c .before .loop .inv .1
@@ -101,10 +102,10 @@ same-length c = c .before .loop .inv .1
 returns : tie.Need-returns Inv-loop μ-loop
 unfolding itemsSent wordsOf
 returns c =
-    let a = c .before .before .before .before .args in
     let l = c .before .loop in
-    let none-left = left-none directory (a .first) (a .count) (l .i) (omega arith) in
-    (omega (arith, l .inv .2, ap wordsOf none-left), sym (ap (λ (its : List Item). sets (l .buffer) (l .at) (itemsSent (a .m) its)) none-left) ∙ l .inv .3)
+    let s = c .before .before .before .before .before in
+    let none-left = drop-of-length-le (its s) {i = l .i} (rw (c .before .before .count .ensures) at (c .loop-test .left)) in
+    (omega (arith, l .inv .2, ap wordsOf none-left), sym (ap (λ (x : List Item). sets (l .buffer) (l .at) (itemsSent (shownOf (s .args .m)) x)) none-left) ∙ l .inv .3)
 
 pub put-items-spec : {M : Type 1} → statement M
 put-items-spec =
@@ -112,8 +113,8 @@ put-items-spec =
     (tie.spec
     Inv-loop
     μ-loop
+    count-requires
     loop-holds
-    add-item-at
     item-at-requires
     cast-put
     shown-requires
