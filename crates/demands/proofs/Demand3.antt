@@ -5,6 +5,7 @@ use mathlib.Core.Bool.{true}
 use mathlib.Core.List.{[], map}
 use Prim.Native.Nat.{ℕ, _/_, _%_, _≤_, _<_}
 use native.Mathlib.Omega.{arith}
+use lib.Dec.{T}
 use lib.ListN.{getD}
 use Rattle.counts.specs.declared.WattHours.{WattHours}
 use Rattle.ratio.specs.Ratios.{ratiosOk, tOf}
@@ -12,10 +13,11 @@ use Rattle.ratio.specs.Steps.{stepOf}
 use Rattle.counts.specs.Energies.{registerOf, wrapOf, lowOf, highOf, energyOf, topWh, roundedOf}
 use Rattle.counts.proofs.Joins.{join-split}
 use Rattle.directory.specs.Quantity.{quantity, energyCount, low, high, wrap}
+use Rattle.directory.specs.Views.{View, passes}
 use Rattle.reading.specs.declared.Quantity.{Quantity}
 use Rattle.reading.specs.declared.Quantity.the-variants as read
 use Rattle.reading.specs.declared.Answer.the-variants.{Reading}
-use Rattle.collector.specs.Collector.{collectorOf}
+use Rattle.collector.specs.Collector.{collectorIn}
 use Rattle.meter.specs.declared.energies.Energy.{Energy}
 use Rattle.meter.specs.declared.given.Given.{Given}
 use Rattle.meter.specs.declared.Meter.{Meter}
@@ -63,108 +65,109 @@ module _ (m : Meter) (e : ℕ) (four : e < 4) where
   unfolding wrapMeanings
   wrap-means = one-means 8 (λ (x : Energy). read.Wrap (wrapOf (meterT m) (x .wh))) refl
 
-module _ (h : History) (e : ℕ) (four : e < 4) where
-  abbrev first : Meter
-  first = newOf (h .address) (h .ratios) .meter
+module _ (v : View) (good : T (passes v)) where
+  module _ (h : History v) (e : ℕ) (four : e < 4) where
+    abbrev first : Meter
+    first = newOf (h .address) (h .ratios) .meter
 
-  abbrev t : ℕ
-  t = tOf (h .ratios)
+    abbrev t : ℕ
+    t = tOf (h .ratios)
 
-  -- the whole Wh of the exact energy
-  abbrev whole : WattHours
-  whole = record { 0 = exactAt e h / 360000 }
+    -- the whole Wh of the exact energy
+    abbrev whole : WattHours
+    whole = record { 0 = exactAt v e h / 360000 }
 
-  -- ---- either moment
+    -- ---- either moment
 
-  record Moment (m : Meter) : Type 0 where
-    pub within : meterOk m ≡ true
-    pub given : m .given ≡ record { address = h .address; ratios = h .ratios }
-    pub value : valueOf (energyAt e m) ≡ exactAt e h
+    record Moment (m : Meter) : Type 0 where
+      pub within : meterOk m ≡ true
+      pub given : m .given ≡ record { address = h .address; ratios = h .ratios }
+      pub value : valueOf (energyAt e m) ≡ exactAt v e h
 
-  then : Moment (sooner h)
-  then =
-      let blank = new-blank (h .address) (h .ratios) in
-      record {
-        within = after-events .within first (h .events) (made-within (h .address) (h .ratios) (h .made));
-        given = after-events .given first (h .events) ∙ ap (λ (m : Meter). m .given) blank;
-        value = omega (arith, after-events .grows e first (h .events), new-zero e (h .address) (h .ratios));
-      }
+    then : Moment (sooner v h)
+    then =
+        let blank = new-blank (h .address) (h .ratios) in
+        record {
+          within = after-events v good .within first (h .events) (made-within (h .address) (h .ratios) (h .made));
+          given = after-events v good .given first (h .events) ∙ ap (λ (m : Meter). m .given) blank;
+          value = omega (arith, after-events v good .grows e first (h .events), new-zero e (h .address) (h .ratios));
+        }
 
-  last : Moment (later h)
-  last = record {
-    within = after-events .within (sooner h) (h .between) (then .within);
-    given = after-events .given (sooner h) (h .between) ∙ then .given;
-    value = omega (arith, after-events .grows e (sooner h) (h .between), idle-adds e (sooner h) (h .between) (h .idle), then .value);
+    last : Moment (later v h)
+    last = record {
+      within = after-events v good .within (sooner v h) (h .between) (then .within);
+      given = after-events v good .given (sooner v h) (h .between) ∙ then .given;
+      value = omega (arith, after-events v good .grows e (sooner v h) (h .between), idle-adds v good e (sooner v h) (h .between) (h .idle), then .value);
+    }
+
+    -- ---- what is read then
+
+    module _ (m : Meter) (now : Moment m) where
+      same : energyAt e m .wh ≡ whole
+      same =
+          let rest = energy-rest (energyAt e m) (energy-within m e (now .within)) in
+          let n : energyAt e m .wh .0 ≡ exactAt v e h / 360000 = omega (arith, now .value, rest) in
+          ap (λ (x : ℕ). record { 0 = x }) n
+
+      same-t : meterT m ≡ t
+      same-t = ap (λ (g : Given). tOf (g .ratios)) (now .given)
+
+      polled : {q : ℕ} (p : Poll v (h .address) q) → Shows m q → collected v (h .ratios) m p ≡ Reading (meaningOf m q)
+      polled p shows =
+          let meets : Meets m (p .request) (p .buffer) = record { within = now .within; room = p .room; own = ap (λ (g : Given). g .address) (now .given) ∙ sym (p .own) } in
+          ap (λ (g : Given). collectorIn v (p .request) (replyTo v m (p .request) (p .buffer)) (g .ratios) (p .index)) (sym (now .given))
+          ∙ collects v good m (p .request) (p .buffer) meets (p .asks) (p .index) (p .below) (rw (p .shows) shows)
+          ∙ ap (λ (x : ℕ). Reading (meaningOf m x)) (p .shows)
+
+      counts : (p : Poll v (h .address) (energyCount e)) → collected v (h .ratios) m p ≡ Reading (read.Energy (registerOf t whole) (stepOf t) (energyOf t (registerOf t whole .0)))
+      counts p =
+          polled p (count-shows m (now .within) e four)
+          ∙ ap Reading (count-means m e four)
+          ∙ (λ i. Reading (read.Energy (registerOf (same-t i) (same i)) (stepOf (same-t i)) (energyOf (same-t i) (registerOf (same-t i) (same i) .0))))
+
+      wraps : (p : Poll v (h .address) (wrap e)) → collected v (h .ratios) m p ≡ Reading (read.Wrap (wrapOf t whole))
+      wraps p = polled p (wrap-shows m (now .within) e four) ∙ ap Reading (wrap-means m e four) ∙ (λ i. Reading (read.Wrap (wrapOf (same-t i) (same i))))
+
+      lows : (p : Poll v (h .address) (low e)) → collected v (h .ratios) m p ≡ Reading (read.Low (lowOf whole))
+      lows p = polled p (low-shows m (now .within) e four) ∙ ap Reading (low-means m e four) ∙ (λ i. Reading (read.Low (lowOf (same i))))
+
+      highs : (p : Poll v (h .address) (high e)) → collected v (h .ratios) m p ≡ Reading (read.High (highOf whole))
+      highs p = polled p (high-shows m (now .within) e four) ∙ ap Reading (high-means m e four) ∙ (λ i. Reading (read.High (highOf (same i))))
+
+    -- ---- joined
+
+    ratios-ok : ratiosOk (h .ratios) ≡ true
+    ratios-ok = ap (λ (g : Given). ratiosOk (g .ratios)) (sym (then .given)) ∙ own-ratios (sooner v h) (then .within)
+
+    register-read : (m n : Meter) → Moment m → Moment n → (r : Poll v (h .address) (energyCount e)) (w : Poll v (h .address) (wrap e)) → RegisterRead v h e (collected v (h .ratios) m r) (collected v (h .ratios) n w)
+    register-read m n now thereafter r w = record {
+      count = registerOf t whole;
+      turns = wrapOf t whole;
+      whole = roundedOf t whole;
+      reads = counts m now r;
+      wraps = wraps n thereafter w;
+      joins = join-split .counts (h .ratios) whole ratios-ok;
+      bounds = record { above = omega (arith, join-split .above t whole); below = omega (arith, join-split .below t whole) };
+    }
+
+    halves-read : (m n : Meter) → Moment m → Moment n → (l : Poll v (h .address) (low e)) (u : Poll v (h .address) (high e)) → HalvesRead v h e (collected v (h .ratios) m l) (collected v (h .ratios) n u)
+    halves-read m n now thereafter l u =
+        let most : exactAt v e h / 360000 ≤ topWh = rw (sym (ap (λ (x : WattHours). x .0) (same m now))) (energy-most m e (now .within)) in
+        record {
+          lows = lowOf whole;
+          highs = highOf whole;
+          whole = whole;
+          reads = lows m now l;
+          heads = highs n thereafter u;
+          joins = join-split .halves whole most;
+          bounds = record { above = omega arith; below = omega arith };
+        }
+
+  pub demand-3 : Demand3 v
+  demand-3 = record {
+    register-first = λ h e four r w. register-read h e four (sooner v h) (later v h) (then h e four) (last h e four) r w;
+    wrap-first = λ h e four r w. register-read h e four (later v h) (sooner v h) (last h e four) (then h e four) r w;
+    low-first = λ h e four l u. halves-read h e four (sooner v h) (later v h) (then h e four) (last h e four) l u;
+    high-first = λ h e four l u. halves-read h e four (later v h) (sooner v h) (last h e four) (then h e four) l u;
+    still = λ h e. idle-adds v good e (sooner v h) (h .between) (h .idle);
   }
-
-  -- ---- what is read then
-
-  module _ (m : Meter) (now : Moment m) where
-    same : energyAt e m .wh ≡ whole
-    same =
-        let rest = energy-rest (energyAt e m) (energy-within m e (now .within)) in
-        let n : energyAt e m .wh .0 ≡ exactAt e h / 360000 = omega (arith, now .value, rest) in
-        ap (λ (x : ℕ). record { 0 = x }) n
-
-    same-t : meterT m ≡ t
-    same-t = ap (λ (g : Given). tOf (g .ratios)) (now .given)
-
-    polled : {q : ℕ} (p : Poll (h .address) q) → Shows m q → collected (h .ratios) m p ≡ Reading (meaningOf m q)
-    polled p shows =
-        let meets : Meets m (p .request) (p .buffer) = record { within = now .within; room = p .room; own = ap (λ (g : Given). g .address) (now .given) ∙ sym (p .own) } in
-        ap (λ (g : Given). collectorOf (p .request) (replyTo m (p .request) (p .buffer)) (g .ratios) (p .index)) (sym (now .given))
-        ∙ collects m (p .request) (p .buffer) meets (p .asks) (p .index) (p .below) (rw (p .shows) shows)
-        ∙ ap (λ (x : ℕ). Reading (meaningOf m x)) (p .shows)
-
-    counts : (p : Poll (h .address) (energyCount e)) → collected (h .ratios) m p ≡ Reading (read.Energy (registerOf t whole) (stepOf t) (energyOf t (registerOf t whole .0)))
-    counts p =
-        polled p (count-shows m (now .within) e four)
-        ∙ ap Reading (count-means m e four)
-        ∙ (λ i. Reading (read.Energy (registerOf (same-t i) (same i)) (stepOf (same-t i)) (energyOf (same-t i) (registerOf (same-t i) (same i) .0))))
-
-    wraps : (p : Poll (h .address) (wrap e)) → collected (h .ratios) m p ≡ Reading (read.Wrap (wrapOf t whole))
-    wraps p = polled p (wrap-shows m (now .within) e four) ∙ ap Reading (wrap-means m e four) ∙ (λ i. Reading (read.Wrap (wrapOf (same-t i) (same i))))
-
-    lows : (p : Poll (h .address) (low e)) → collected (h .ratios) m p ≡ Reading (read.Low (lowOf whole))
-    lows p = polled p (low-shows m (now .within) e four) ∙ ap Reading (low-means m e four) ∙ (λ i. Reading (read.Low (lowOf (same i))))
-
-    highs : (p : Poll (h .address) (high e)) → collected (h .ratios) m p ≡ Reading (read.High (highOf whole))
-    highs p = polled p (high-shows m (now .within) e four) ∙ ap Reading (high-means m e four) ∙ (λ i. Reading (read.High (highOf (same i))))
-
-  -- ---- joined
-
-  ratios-ok : ratiosOk (h .ratios) ≡ true
-  ratios-ok = ap (λ (g : Given). ratiosOk (g .ratios)) (sym (then .given)) ∙ own-ratios (sooner h) (then .within)
-
-  register-read : (m n : Meter) → Moment m → Moment n → (r : Poll (h .address) (energyCount e)) (w : Poll (h .address) (wrap e)) → RegisterRead h e (collected (h .ratios) m r) (collected (h .ratios) n w)
-  register-read m n now thereafter r w = record {
-    count = registerOf t whole;
-    turns = wrapOf t whole;
-    whole = roundedOf t whole;
-    reads = counts m now r;
-    wraps = wraps n thereafter w;
-    joins = join-split .counts (h .ratios) whole ratios-ok;
-    bounds = record { above = omega (arith, join-split .above t whole); below = omega (arith, join-split .below t whole) };
-  }
-
-  halves-read : (m n : Meter) → Moment m → Moment n → (l : Poll (h .address) (low e)) (u : Poll (h .address) (high e)) → HalvesRead h e (collected (h .ratios) m l) (collected (h .ratios) n u)
-  halves-read m n now thereafter l u =
-      let most : exactAt e h / 360000 ≤ topWh = rw (sym (ap (λ (x : WattHours). x .0) (same m now))) (energy-most m e (now .within)) in
-      record {
-        lows = lowOf whole;
-        highs = highOf whole;
-        whole = whole;
-        reads = lows m now l;
-        heads = highs n thereafter u;
-        joins = join-split .halves whole most;
-        bounds = record { above = omega arith; below = omega arith };
-      }
-
-pub demand-3 : Demand3
-demand-3 = record {
-  register-first = λ h e four r w. register-read h e four (sooner h) (later h) (then h e four) (last h e four) r w;
-  wrap-first = λ h e four r w. register-read h e four (later h) (sooner h) (last h e four) (then h e four) r w;
-  low-first = λ h e four l u. halves-read h e four (sooner h) (later h) (then h e four) (last h e four) l u;
-  high-first = λ h e four l u. halves-read h e four (later h) (sooner h) (last h e four) (then h e four) l u;
-  still = λ h e. idle-adds e (sooner h) (h .between) (h .idle);
-}

@@ -17,8 +17,8 @@ use Rattle.meter.proofs.Parts.{zero-to-neither}
 use Rattle.meter.proofs.Answers.{new-answers, sample-answers, setup-idle}
 use Rattle.store.proofs.Verdicts.{write-when}
 use Rattle.registers.proofs.Widths.{every-case, setup-unseen}
-use Rattle.board.proofs.Answers as board
 use Rattle.demands.specs.Demands.{Demand1, Ground, Replies, Readings, Demand2, Demands}
+use Rattle.demands.proofs.Frames as board
 use Rattle.demands.proofs.Polls.{with-data, round-trip}
 use Rattle.demands.proofs.Polled.{every-item-polled}
 use Rattle.demands.proofs.Histories.{after-events}

@@ -3,7 +3,7 @@ use mathlib.Core.Path.{sym, _∙_}
 use Rattle.counts.proofs.Joins.{join-back}
 use Rattle.meter.proofs.Outcomes.{answer-back}
 use Rattle.store.proofs.Verdicts.{verdict-back}
-use Rattle.board.proofs.Answers.{reply-back}
+use Rattle.demands.proofs.Frames.{reply-back}
 use Rattle.demands.specs.Determined.{Determined, Numbered}
 
 pub determined : Determined

@@ -5,6 +5,7 @@ use mathlib.Core.Bool.{true, false, false≢true}
 use mathlib.Core.List.{List}
 use Prim.Native.Nat.{ℕ, _≤_, _<_}
 use native.Mathlib.Omega.{arith}
+use lib.Dec.{T}
 use lib.ListN.{length, take, drop}
 use lib.Seq.{sets}
 use borrow.Author.Tests.{lt-ltb, le-ltb}
@@ -14,22 +15,26 @@ use Rattle.refusal.specs.declared.ErrorCode.the-variants.{Function, Address, Da
 use Rattle.refusal.specs.Numbers.{errorNumber, refusedBy}
 use Rattle.refusal.proofs.Distinct.{one-reason-each, caseIn, numberIn}
 use Rattle.crc.specs.Crc.{intact}
-use Rattle.directory.specs.Table.{directory}
+use Rattle.directory.specs.Views.{View, passes, own}
+use Rattle.directory.proofs.Rules.{own-passes}
 use Rattle.modbus.specs.Frame.{silence, isRead, isWrite}
 use Rattle.modbus.specs.Replies.{errorReply}
 use Rattle.modbus.proofs.Judged.{read-when}
 use Rattle.meter.specs.declared.Meter.{Meter}
 use Rattle.meter.specs.Meters.{meterOk}
 use Rattle.board.specs.declared.Handled.{Handled}
 use Rattle.board.specs.declared.Reply.{Reply}
 use Rattle.board.specs.declared.Reply.the-variants.{Silent, Sent, Refused}
 use Rattle.store.specs.Writes.{storedOf, verdictTold}
-use Rattle.board.specs.Board.{Outcome, boardOf}
-use Rattle.board.specs.Answers.{Heeds, Answers, Errs, ReadErrs, WriteErrs, Quiet, Stores, replyTold, Comes, Rows, ExactlyWhen, Obeys, Untouched, RepliesSealed, BufferUnseen}
+use Rattle.board.specs.Board.{Outcome, boardIn, boardOf}
+use Rattle.demands.specs.Frames.{Heeds, Answers, Errs, ReadErrs, WriteErrs, Quiet, Stores, replyTold, Comes, Rows, ExactlyWhen, Obeys, Untouched, RepliesSealed, BufferUnseen}
 use Rattle.board.proofs.Cases.{board-1, board-2, board-silent}
 use Rattle.store.proofs.Verdicts.{write-when, write-within}
-use Rattle.board.proofs.Views.{Gives, other, misread, shows, miswritten, stores, View, out, short, unheard, for-all, for-one, view}
-use Rattle.board.proofs.Replies.{gives-sent, gives-quiet, gives-long, gives-whole, sent-front, sent-beyond, sent-length, sent-same, Faults, unknown, bad-read, bad-write, faults}
+use Rattle.demands.proofs.Gives.{Gives, Case, case}
+use Rattle.demands.proofs.Gives.Gives.{other, misread, shows, miswritten, stores}
+use Rattle.demands.proofs.Gives.Case.{out, short, unheard, for-all, for-one}
+use Rattle.demands.proofs.Replies.{gives-sent, gives-quiet, gives-long, gives-whole, sent-front, sent-beyond, sent-length, sent-same, Faults, faults}
+use Rattle.demands.proofs.Replies.Faults.{unknown, bad-read, bad-write}
 
 -- ---- answers are told apart by their numbers
 
@@ -60,242 +65,243 @@ told-as e h = sym (ap (λ (o : Outcome). replyTold (said o)) e) ∙ h
 apart {ℓ} : {A : Type ℓ} {x y : Reply} → (caseIn (replyTold x) ≡ caseIn (replyTold y) → ⊥) → x ≡ y → A
 apart n e = absurd (n (ap (λ (r : Reply). caseIn (replyTold r)) e))
 
--- ---- refusals and silence
-
-module _ (m : Meter) (frame b : List ℕ) where
-  -- the number of a refusal, and what it is due to
-  data Refuses (n : ℕ) : Type 0 where
-    by-record : n ≡ 1 → meterOk m ≡ false → Refuses n
-    by-buffer : n ≡ 2 → meterOk m ≡ true → length b < 256 → Refuses n
-
-  refuses : View m frame b → (n : ℕ) → Comes m frame b (refusedBy n) → Refuses n
-  refuses (out h e) n r = by-record (sym (ap numberIn (told-as e r))) h
-  refuses (short h k e) n r = by-buffer (sym (ap numberIn (told-as e r))) h k
-  refuses (unheard h k q e) n r = absurd (omega (arith, ap caseIn (told-as e r)))
-  refuses (for-all bytes k h z g e) n r = absurd (omega (arith, ap caseIn (told-as e r)))
-  refuses (for-one bytes k a g e) n r = absurd (omega (arith, ap caseIn (told-as e r)))
-
-  row-1 : Refuses 1 → meterOk m ≡ false
-  row-1 (by-record e h) = h
-  row-1 (by-buffer e h k) = absurd (omega (arith, e))
-
-  row-2 : Refuses 2 → (meterOk m ≡ true) × (length b < 256)
-  row-2 (by-record e h) = absurd (omega (arith, e))
-  row-2 (by-buffer e h k) = (h, k)
-
-  only : (n : ℕ) → Refuses n → (n ≡ 1) ⊎ (n ≡ 2)
-  only n (by-record e h) = inl e
-  only n (by-buffer e h k) = inr e
-
-  silent-to : View m frame b → said (boardOf m frame b) ≡ Silent → (meterOk m ≡ true) × (256 ≤ length b) × Quiet m frame
-  silent-to (out h e) r = apart (λ z. omega arith) (heard-as e r)
-  silent-to (short h k e) r = apart (λ z. omega arith) (heard-as e r)
-  silent-to (unheard h k q e) r = (h, k, inl q)
-  silent-to (for-all bytes n h z g e) r = (h .within, h .room, inr z)
-  silent-to (for-one bytes n a g e) r = apart (λ z. omega arith) (heard-as e r)
-
-  silent-from : View m frame b → meterOk m ≡ true → 256 ≤ length b → Quiet m frame → said (boardOf m frame b) ≡ Silent
-  silent-from (out h e) k l q = absurd (false≢true (sym h ∙ k))
-  silent-from (short h s e) k l q = absurd (omega arith)
-  silent-from (unheard h s p e) k l q = ap said e
-  silent-from (for-all bytes n h z g e) k l q = ap said e
-  silent-from (for-one bytes n a g e) k l (inl q) = absurd (false≢true (sym (a .heeds .heard) ∙ q))
-  silent-from (for-one bytes n a g e) k l (inr z) = absurd (a .own z)
-
--- ---- error codes
-
 five : (frame : List ℕ) (code : ErrorCode) → length (errorReply frame code) ≡ 5
 five frame code = refl
 
-module _ (m : Meter) (frame b : List ℕ) (code : ErrorCode) where
-  errs-to : View m frame b → Errs (errorNumber code) m frame b → Answers m frame b × Faults code m frame
-  errs-to (out h e) r = apart (λ z. omega arith) (ap said (sym e ∙ r))
-  errs-to (short h k e) r = apart (λ z. omega arith) (ap said (sym e ∙ r))
-  errs-to (unheard h k q e) r = apart (λ z. omega arith) (ap said (sym e ∙ r))
-  errs-to (for-all bytes n h z g e) r = apart (λ z. omega arith) (ap said (sym e ∙ r))
-  errs-to (for-one bytes n a g e) r =
-      let room = a .heeds .room in
-      (a, faults m frame bytes n code g (sent-same bytes (errorReply frame code) n m b (omega (arith, gives-long m frame bytes n g)) (omega (arith, five frame code)) (sym e ∙ r)))
+module _ (v : View) (good : T (passes v)) where
+  -- ---- refusals and silence
 
-  errs-from : Answers m frame b → ReadErrs code frame ⊎ WriteErrs code m frame → Errs (errorNumber code) m frame b
-  errs-from a (inl r) = gives-sent m frame b a (errorReply frame code) m (misread code (r .0) (r .1) refl refl)
-  errs-from a (inr w) = gives-sent m frame b a (errorReply frame code) m (miswritten code (w .0) (w .1) refl refl)
+  module _ (m : Meter) (frame b : List ℕ) where
+    -- the number of a refusal, and what it is due to
+    data Refuses (n : ℕ) : Type 0 where
+      by-record : n ≡ 1 → meterOk m ≡ false → Refuses n
+      by-buffer : n ≡ 2 → meterOk m ≡ true → length b < 256 → Refuses n
 
-  -- a code that is not 01 is due to a read or a write
-  named : (Function ≡ code → ⊥) → Faults code m frame → ReadErrs code frame ⊎ WriteErrs code m frame
-  named n (unknown r w e) = absurd (n e)
-  named n (bad-read h) = inl h
-  named n (bad-write h) = inr h
+    refuses : Case v m frame b → (n : ℕ) → Comes v m frame b (refusedBy n) → Refuses n
+    refuses (out h e) n r = by-record (sym (ap numberIn (told-as e r))) h
+    refuses (short h k e) n r = by-buffer (sym (ap numberIn (told-as e r))) h k
+    refuses (unheard h k q e) n r = absurd (omega (arith, ap caseIn (told-as e r)))
+    refuses (for-all bytes k h z g e) n r = absurd (omega (arith, ap caseIn (told-as e r)))
+    refuses (for-one bytes k a g e) n r = absurd (omega (arith, ap caseIn (told-as e r)))
 
-  errs-when : (Function ≡ code → ⊥) → Errs (errorNumber code) m frame b ↔ (Answers m frame b × (ReadErrs code frame ⊎ WriteErrs code m frame))
-  errs-when n = (λ h. let t = errs-to (view m frame b) h in (t .0, named n (t .1)), λ h. errs-from (h .0) (h .1))
+    row-1 : Refuses 1 → meterOk m ≡ false
+    row-1 (by-record e h) = h
+    row-1 (by-buffer e h k) = absurd (omega (arith, e))
 
--- 01 is due to neither
-no-function : (m : Meter) (frame : List ℕ) → Faults Function m frame → (isRead frame ≡ false) × (isWrite frame ≡ false)
-no-function m frame (unknown r w e) = (r, w)
-no-function m frame (bad-read h) = absurd (read-when .never directory frame (h .1))
-no-function m frame (bad-write h) = absurd (neither (write-when .only m frame 1 (ap verdictTold (h .1))))
-  where
-    neither : (errorNumber Function ≡ 2) ⊎ (errorNumber Function ≡ 3) → ⊥
-    neither (inl e) = omega (arith, e)
-    neither (inr e) = omega (arith, e)
+    row-2 : Refuses 2 → (meterOk m ≡ true) × (length b < 256)
+    row-2 (by-record e h) = absurd (omega (arith, e))
+    row-2 (by-buffer e h k) = (h, k)
 
-module _ (m : Meter) (frame b : List ℕ) where
-  rows : Rows m frame b
-  rows = record {
-    row-1 = (λ h. row-1 m frame b (refuses m frame b (view m frame b) 1 h), λ h. ap (λ (o : Outcome). replyTold (said o)) (sym (board-1 m frame b h)));
-    row-2 = (λ h. row-2 m frame b (refuses m frame b (view m frame b) 2 h), λ h. ap (λ (o : Outcome). replyTold (said o)) (sym (board-2 m frame b (h .0) (lt-ltb _ _ (h .1)))));
-    only = λ n h. only m frame b n (refuses m frame b (view m frame b) n h);
-    silent = (silent-to m frame b (view m frame b), λ h. silent-from m frame b (view m frame b) (h .0) (h .1) (h .2));
-    error-01 = (
-      λ h. let t = errs-to m frame b Function (view m frame b) h in let f = no-function m frame (t .1) in (t .0, f .0, f .1),
-      λ h. gives-sent m frame b (h .0) (errorReply frame Function) m (other (h .1) (h .2) refl refl),
-    );
-    error-02 = errs-when m frame b Address (λ e. let z : 1 ≡ 2 = ap errorNumber e in omega arith);
-    error-03 = errs-when m frame b Data (λ e. let z : 1 ≡ 3 = ap errorNumber e in omega arith);
-  }
+    only : (n : ℕ) → Refuses n → (n ≡ 1) ⊎ (n ≡ 2)
+    only n (by-record e h) = inl e
+    only n (by-buffer e h k) = inr e
 
-pub exactly-when : ExactlyWhen
-exactly-when = record { rows = rows }
+    silent-to : Case v m frame b → said (boardIn v m frame b) ≡ Silent → (meterOk m ≡ true) × (256 ≤ length b) × Quiet m frame
+    silent-to (out h e) r = apart (λ z. omega arith) (heard-as e r)
+    silent-to (short h k e) r = apart (λ z. omega arith) (heard-as e r)
+    silent-to (unheard h k q e) r = (h, k, inl q)
+    silent-to (for-all bytes n h z g e) r = (h .within, h .room, inr z)
+    silent-to (for-one bytes n a g e) r = apart (λ z. omega arith) (heard-as e r)
 
-pub obeys : Obeys
-obeys =
-    record {
-      reads = λ m frame b first count a r s. gives-sent m frame b a _ m (shows first count r s refl refl);
-      writes = λ m frame b a w. gives-sent m frame b a _ _ (stores (w .0) (w .1) refl refl);
-      for-all = λ m frame b h z w. gives-quiet m frame b h z _ _ (stores (w .0) (w .1) refl refl);
+    silent-from : Case v m frame b → meterOk m ≡ true → 256 ≤ length b → Quiet m frame → said (boardIn v m frame b) ≡ Silent
+    silent-from (out h e) k l q = absurd (false≢true (sym h ∙ k))
+    silent-from (short h s e) k l q = absurd (omega arith)
+    silent-from (unheard h s p e) k l q = ap said e
+    silent-from (for-all bytes n h z g e) k l q = ap said e
+    silent-from (for-one bytes n a g e) k l (inl q) = absurd (false≢true (sym (a .heeds .heard) ∙ q))
+    silent-from (for-one bytes n a g e) k l (inr z) = absurd (a .own z)
+
+  -- ---- error codes
+
+  module _ (m : Meter) (frame b : List ℕ) (code : ErrorCode) where
+    errs-to : Case v m frame b → Errs v (errorNumber code) m frame b → Answers m frame b × Faults v good code m frame
+    errs-to (out h e) r = apart (λ z. omega arith) (ap said (sym e ∙ r))
+    errs-to (short h k e) r = apart (λ z. omega arith) (ap said (sym e ∙ r))
+    errs-to (unheard h k q e) r = apart (λ z. omega arith) (ap said (sym e ∙ r))
+    errs-to (for-all bytes n h z g e) r = apart (λ z. omega arith) (ap said (sym e ∙ r))
+    errs-to (for-one bytes n a g e) r =
+        let room = a .heeds .room in
+        (a, faults v good m frame bytes n code g (sent-same bytes (errorReply frame code) n m b (omega (arith, gives-long v good m frame bytes n g)) (omega (arith, five frame code)) (sym e ∙ r)))
+
+    errs-from : Answers m frame b → ReadErrs v code frame ⊎ WriteErrs code m frame → Errs v (errorNumber code) m frame b
+    errs-from a (inl r) = gives-sent v good m frame b a (errorReply frame code) m (misread code (r .0) (r .1) refl refl)
+    errs-from a (inr w) = gives-sent v good m frame b a (errorReply frame code) m (miswritten code (w .0) (w .1) refl refl)
+
+    -- a code that is not 01 is due to a read or a write
+    named : (Function ≡ code → ⊥) → Faults v good code m frame → ReadErrs v code frame ⊎ WriteErrs code m frame
+    named n (unknown r w e) = absurd (n e)
+    named n (bad-read h) = inl h
+    named n (bad-write h) = inr h
+
+    errs-when : (Function ≡ code → ⊥) → Errs v (errorNumber code) m frame b ↔ (Answers m frame b × (ReadErrs v code frame ⊎ WriteErrs code m frame))
+    errs-when n = (λ h. let t = errs-to (case v m frame b) h in (t .0, named n (t .1)), λ h. errs-from (h .0) (h .1))
+
+  -- 01 is due to neither
+  no-function : (m : Meter) (frame : List ℕ) → Faults v good Function m frame → (isRead frame ≡ false) × (isWrite frame ≡ false)
+  no-function m frame (unknown r w e) = (r, w)
+  no-function m frame (bad-read h) = absurd (read-when .never v frame (h .1))
+  no-function m frame (bad-write h) = absurd (neither (write-when .only m frame 1 (ap verdictTold (h .1))))
+    where
+      neither : (errorNumber Function ≡ 2) ⊎ (errorNumber Function ≡ 3) → ⊥
+      neither (inl e) = omega (arith, e)
+      neither (inr e) = omega (arith, e)
+
+  module _ (m : Meter) (frame b : List ℕ) where
+    rows : Rows v m frame b
+    rows = record {
+      row-1 = (λ h. row-1 m frame b (refuses m frame b (case v m frame b) 1 h), λ h. ap (λ (o : Outcome). replyTold (said o)) (sym (board-1 v m frame b h)));
+      row-2 = (λ h. row-2 m frame b (refuses m frame b (case v m frame b) 2 h), λ h. ap (λ (o : Outcome). replyTold (said o)) (sym (board-2 v m frame b (h .0) (lt-ltb _ _ (h .1)))));
+      only = λ n h. only m frame b n (refuses m frame b (case v m frame b) n h);
+      silent = (silent-to m frame b (case v m frame b), λ h. silent-from m frame b (case v m frame b) (h .0) (h .1) (h .2));
+      error-01 = (
+        λ h. let t = errs-to m frame b Function (case v m frame b) h in let f = no-function m frame (t .1) in (t .0, f .0, f .1),
+        λ h. gives-sent v good m frame b (h .0) (errorReply frame Function) m (other (h .1) (h .2) refl refl),
+      );
+      error-02 = errs-when m frame b Address (λ e. let z : 1 ≡ 2 = ap errorNumber e in omega arith);
+      error-03 = errs-when m frame b Data (λ e. let z : 1 ≡ 3 = ap errorNumber e in omega arith);
     }
 
--- ---- what stays as it was
+  pub exactly-when : ExactlyWhen v
+  exactly-when = record { rows = rows }
 
-module _ (m : Meter) (frame b : List ℕ) where
-  abbrev Kept : Meter → Type 0
-  Kept n = (n ≡ m) ⊎ (Heeds m frame b × Stores m frame × (n ≡ storedOf m frame))
+  pub obeys : Obeys v
+  obeys =
+      record {
+        reads = λ m frame b first count a r s. gives-sent v good m frame b a _ m (shows first count r s refl refl);
+        writes = λ m frame b a w. gives-sent v good m frame b a _ _ (stores (w .0) (w .1) refl refl);
+        for-all = λ m frame b h z w. gives-quiet v good m frame b h z _ _ (stores (w .0) (w .1) refl refl);
+      }
 
-  gives-kept : (bytes : List ℕ) (n : Meter) → Heeds m frame b → Gives m frame bytes n → Kept n
-  gives-kept bytes n h (other r w e k) = inl k
-  gives-kept bytes n h (misread code r s e k) = inl k
-  gives-kept bytes n h (shows first count r s e k) = inl k
-  gives-kept bytes n h (miswritten code w v e k) = inl k
-  gives-kept bytes n h (stores w v e k) = inr (h, (w, v), k)
+  -- ---- what stays as it was
 
-module _ (m : Meter) (frame b : List ℕ) where
-  refused : View m frame b → (reason : Refusal) → said (boardOf m frame b) ≡ Refused reason → (boardOf m frame b .handled .meter ≡ m) × (boardOf m frame b .buffer ≡ b)
-  refused (out h e) reason r = (ap (λ (o : Outcome). o .handled .meter) e, ap (λ (o : Outcome). o .buffer) e)
-  refused (short h k e) reason r = (ap (λ (o : Outcome). o .handled .meter) e, ap (λ (o : Outcome). o .buffer) e)
-  refused (unheard h k q e) reason r = apart (λ z. omega arith) (heard-as e r)
-  refused (for-all bytes n h z g e) reason r = apart (λ z. omega arith) (heard-as e r)
-  refused (for-one bytes n a g e) reason r = apart (λ z. omega arith) (heard-as e r)
+  module _ (m : Meter) (frame b : List ℕ) where
+    abbrev Kept : Meter → Type 0
+    Kept n = (n ≡ m) ⊎ (Heeds m frame b × Stores m frame × (n ≡ storedOf m frame))
 
-  unheeded : View m frame b → silence (m .given .address) frame ≡ true → (boardOf m frame b .handled .meter ≡ m) × (boardOf m frame b .buffer ≡ b)
-  unheeded (out h e) q = (ap (λ (o : Outcome). o .handled .meter) e, ap (λ (o : Outcome). o .buffer) e)
-  unheeded (short h k e) q = (ap (λ (o : Outcome). o .handled .meter) e, ap (λ (o : Outcome). o .buffer) e)
-  unheeded (unheard h k s e) q = (ap (λ (o : Outcome). o .handled .meter) e, ap (λ (o : Outcome). o .buffer) e)
-  unheeded (for-all bytes n h z g e) q = absurd (false≢true (sym (h .heard) ∙ q))
-  unheeded (for-one bytes n a g e) q = absurd (false≢true (sym (a .heeds .heard) ∙ q))
+    gives-kept : (bytes : List ℕ) (n : Meter) → Heeds m frame b → Gives v m frame bytes n → Kept n
+    gives-kept bytes n h (other r w e k) = inl k
+    gives-kept bytes n h (misread code r s e k) = inl k
+    gives-kept bytes n h (shows first count r s e k) = inl k
+    gives-kept bytes n h (miswritten code w j e k) = inl k
+    gives-kept bytes n h (stores w j e k) = inr (h, (w, j), k)
 
-  silent : View m frame b → said (boardOf m frame b) ≡ Silent → boardOf m frame b .buffer ≡ b
-  silent (out h e) r = apart (λ z. omega arith) (heard-as e r)
-  silent (short h k e) r = apart (λ z. omega arith) (heard-as e r)
-  silent (unheard h k q e) r = ap (λ (o : Outcome). o .buffer) e
-  silent (for-all bytes n h z g e) r = ap (λ (o : Outcome). o .buffer) e
-  silent (for-one bytes n a g e) r = apart (λ z. omega arith) (heard-as e r)
+  module _ (m : Meter) (frame b : List ℕ) where
+    refused : Case v m frame b → (reason : Refusal) → said (boardIn v m frame b) ≡ Refused reason → (boardIn v m frame b .handled .meter ≡ m) × (boardIn v m frame b .buffer ≡ b)
+    refused (out h e) reason r = (ap (λ (o : Outcome). o .handled .meter) e, ap (λ (o : Outcome). o .buffer) e)
+    refused (short h k e) reason r = (ap (λ (o : Outcome). o .handled .meter) e, ap (λ (o : Outcome). o .buffer) e)
+    refused (unheard h k q e) reason r = apart (λ z. omega arith) (heard-as e r)
+    refused (for-all bytes n h z g e) reason r = apart (λ z. omega arith) (heard-as e r)
+    refused (for-one bytes n a g e) reason r = apart (λ z. omega arith) (heard-as e r)
 
-  -- a reply that was sent: who it is for, what it is, and the buffer then
-  record Reply-sent (k : ℕ) : Type 0 where
-    bytes : List ℕ
-    next : Meter
-    answers : Answers m frame b
-    gives : Gives m frame bytes next
-    long : length bytes ≡ k
-    after : boardOf m frame b .buffer ≡ sets b 0 bytes
+    unheeded : Case v m frame b → silence (m .given .address) frame ≡ true → (boardIn v m frame b .handled .meter ≡ m) × (boardIn v m frame b .buffer ≡ b)
+    unheeded (out h e) q = (ap (λ (o : Outcome). o .handled .meter) e, ap (λ (o : Outcome). o .buffer) e)
+    unheeded (short h k e) q = (ap (λ (o : Outcome). o .handled .meter) e, ap (λ (o : Outcome). o .buffer) e)
+    unheeded (unheard h k s e) q = (ap (λ (o : Outcome). o .handled .meter) e, ap (λ (o : Outcome). o .buffer) e)
+    unheeded (for-all bytes n h z g e) q = absurd (false≢true (sym (h .heard) ∙ q))
+    unheeded (for-one bytes n a g e) q = absurd (false≢true (sym (a .heeds .heard) ∙ q))
 
-  sent : View m frame b → (k : ℕ) → said (boardOf m frame b) ≡ Sent k → Reply-sent k
-  sent (out h e) k r = apart (λ z. omega arith) (heard-as e r)
-  sent (short h l e) k r = apart (λ z. omega arith) (heard-as e r)
-  sent (unheard h l q e) k r = apart (λ z. omega arith) (heard-as e r)
-  sent (for-all bytes n h z g e) k r = apart (λ z. omega arith) (heard-as e r)
-  sent (for-one bytes n a g e) k r =
-      record { bytes = bytes; next = n; answers = a; gives = g; long = sent-length (heard-as e r); after = ap (λ (o : Outcome). o .buffer) e }
+    silent : Case v m frame b → said (boardIn v m frame b) ≡ Silent → boardIn v m frame b .buffer ≡ b
+    silent (out h e) r = apart (λ z. omega arith) (heard-as e r)
+    silent (short h k e) r = apart (λ z. omega arith) (heard-as e r)
+    silent (unheard h k q e) r = ap (λ (o : Outcome). o .buffer) e
+    silent (for-all bytes n h z g e) r = ap (λ (o : Outcome). o .buffer) e
+    silent (for-one bytes n a g e) r = apart (λ z. omega arith) (heard-as e r)
 
-  module _ (k : ℕ) (s : Reply-sent k) where
-    within-buffer : length (s .bytes) ≤ length b
-    within-buffer = let room = s .answers .heeds .room in omega (arith, gives-long m frame (s .bytes) (s .next) (s .gives))
+    -- a reply that was sent: who it is for, what it is, and the buffer then
+    record Reply-sent (k : ℕ) : Type 0 where
+      bytes : List ℕ
+      next : Meter
+      answers : Answers m frame b
+      gives : Gives v m frame bytes next
+      long : length bytes ≡ k
+      after : boardIn v m frame b .buffer ≡ sets b 0 bytes
 
-    front : take k (boardOf m frame b .buffer) ≡ s .bytes
-    front = rw (s .after, ← s .long) (sent-front (s .bytes) b within-buffer)
+    sent : Case v m frame b → (k : ℕ) → said (boardIn v m frame b) ≡ Sent k → Reply-sent k
+    sent (out h e) k r = apart (λ z. omega arith) (heard-as e r)
+    sent (short h l e) k r = apart (λ z. omega arith) (heard-as e r)
+    sent (unheard h l q e) k r = apart (λ z. omega arith) (heard-as e r)
+    sent (for-all bytes n h z g e) k r = apart (λ z. omega arith) (heard-as e r)
+    sent (for-one bytes n a g e) k r =
+        record { bytes = bytes; next = n; answers = a; gives = g; long = sent-length (heard-as e r); after = ap (λ (o : Outcome). o .buffer) e }
 
-    beyond : drop k (boardOf m frame b .buffer) ≡ drop k b
-    beyond = rw (s .after, ← s .long) (sent-beyond (s .bytes) b within-buffer)
+    module _ (k : ℕ) (s : Reply-sent k) where
+      within-buffer : length (s .bytes) ≤ length b
+      within-buffer = let room = s .answers .heeds .room in omega (arith, gives-long v good m frame (s .bytes) (s .next) (s .gives))
 
-  altered : View m frame b → Kept m frame b (boardOf m frame b .handled .meter)
-  altered (out h e) = inl (ap (λ (o : Outcome). o .handled .meter) e)
-  altered (short h k e) = inl (ap (λ (o : Outcome). o .handled .meter) e)
-  altered (unheard h k q e) = inl (ap (λ (o : Outcome). o .handled .meter) e)
-  altered (for-all bytes n h z g e) = rw e (gives-kept m frame b bytes n h g)
-  altered (for-one bytes n a g e) = rw e (gives-kept m frame b bytes n (a .heeds) g)
+      front : take k (boardIn v m frame b .buffer) ≡ s .bytes
+      front = rw (s .after, ← s .long) (sent-front (s .bytes) b within-buffer)
 
-pub untouched : Untouched
-untouched =
-    record {
-      refused = λ m frame b. refused m frame b (view m frame b);
-      unheard = λ m frame b. unheeded m frame b (view m frame b);
-      silent = λ m frame b. silent m frame b (view m frame b);
-      beyond = λ m frame b n h. beyond m frame b n (sent m frame b (view m frame b) n h);
-      altered = λ m frame b. altered m frame b (view m frame b);
-      for-all = λ m frame b n z h. sent m frame b (view m frame b) n h .answers .own z;
-    }
+      beyond : drop k (boardIn v m frame b .buffer) ≡ drop k b
+      beyond = rw (s .after, ← s .long) (sent-beyond (s .bytes) b within-buffer)
 
-pub replies-sealed : RepliesSealed
-replies-sealed =
-    record {
-      long = λ m frame b n h. let s = sent m frame b (view m frame b) n h in omega (arith, gives-long m frame (s .bytes) (s .next) (s .gives), s .long);
-      whole = λ m frame b n h. let s = sent m frame b (view m frame b) n h in ap intact (front m frame b n s) ∙ gives-whole m frame (s .bytes) (s .next) (s .gives);
-    }
+    altered : Case v m frame b → Kept m frame b (boardIn v m frame b .handled .meter)
+    altered (out h e) = inl (ap (λ (o : Outcome). o .handled .meter) e)
+    altered (short h k e) = inl (ap (λ (o : Outcome). o .handled .meter) e)
+    altered (unheard h k q e) = inl (ap (λ (o : Outcome). o .handled .meter) e)
+    altered (for-all bytes n h z g e) = rw e (gives-kept m frame b bytes n h g)
+    altered (for-one bytes n a g e) = rw e (gives-kept m frame b bytes n (a .heeds) g)
 
--- the reply that was answered with such an outcome
+  pub untouched : Untouched v
+  untouched =
+      record {
+        refused = λ m frame b. refused m frame b (case v m frame b);
+        unheard = λ m frame b. unheeded m frame b (case v m frame b);
+        silent = λ m frame b. silent m frame b (case v m frame b);
+        beyond = λ m frame b n h. beyond m frame b n (sent m frame b (case v m frame b) n h);
+        altered = λ m frame b. altered m frame b (case v m frame b);
+        for-all = λ m frame b n z h. sent m frame b (case v m frame b) n h .answers .own z;
+      }
+
+  pub replies-sealed : RepliesSealed v
+  replies-sealed =
+      record {
+        long = λ m frame b n h. let s = sent m frame b (case v m frame b) n h in omega (arith, gives-long v good m frame (s .bytes) (s .next) (s .gives), s .long);
+        whole = λ m frame b n h. let s = sent m frame b (case v m frame b) n h in ap intact (front m frame b n s) ∙ gives-whole v good m frame (s .bytes) (s .next) (s .gives);
+      }
+
+  -- ---- within limits
+
+  kept-within : (m : Meter) (frame b : List ℕ) (n : Meter) → meterOk m ≡ true → Kept m frame b n → meterOk n ≡ true
+  kept-within m frame b n h (inl e) = ap meterOk e ∙ h
+  kept-within m frame b n h (inr s) = ap meterOk (s .2 ∙ sym (write-when .stored m frame (s .1 .1))) ∙ write-within m frame h
+
+  -- a frame keeps a record within limits
+  pub frame-within : (m : Meter) (frame b : List ℕ) → meterOk m ≡ true → meterOk (boardIn v m frame b .handled .meter) ≡ true
+  frame-within m frame b h = kept-within m frame b _ h (untouched .altered m frame b)
+
+  -- ---- the buffer is not seen
+
+  module _ (m : Meter) (frame a b : List ℕ) (ra : 256 ≤ length a) (rb : 256 ≤ length b) where
+    moved : Heeds m frame a → Heeds m frame b
+    moved h = record { within = h .within; room = rb; heard = h .heard }
+
+    own-moved : Answers m frame a → Answers m frame b
+    own-moved h = record { heeds = moved (h .heeds); own = h .own }
+
+    abbrev handled : {x y : Outcome} → x ≡ y → x .handled ≡ y .handled
+    handled e = ap (λ (o : Outcome). o .handled) e
+
+    same : Case v m frame a → boardIn v m frame a .handled ≡ boardIn v m frame b .handled
+    same (out h e) = handled e ∙ handled (board-1 v m frame b h)
+    same (short h k e) = absurd (omega arith)
+    same (unheard h k q e) = handled e ∙ handled (board-silent v m frame b h (le-ltb _ _ rb) q)
+    same (for-all bytes n h z g e) = handled e ∙ sym (handled (gives-quiet v good m frame b (moved h) z bytes n g))
+    same (for-one bytes n h g e) = handled e ∙ sym (handled (gives-sent v good m frame b (own-moved h) bytes n g))
+
+    bytes-same : (n : ℕ) → said (boardIn v m frame a) ≡ Sent n → take n (boardIn v m frame a .buffer) ≡ take n (boardIn v m frame b .buffer)
+    bytes-same n h =
+        let s = sent m frame a (case v m frame a) n h in
+        let e = gives-sent v good m frame b (own-moved (s .answers)) (s .bytes) (s .next) (s .gives) in
+        let there : Reply-sent m frame b n = record { bytes = s .bytes; next = s .next; answers = own-moved (s .answers); gives = s .gives; long = s .long; after = ap (λ (o : Outcome). o .buffer) e } in
+        front m frame a n s ∙ sym (front m frame b n there)
+
+  pub buffer-unseen : BufferUnseen v
+  buffer-unseen =
+      record {
+        same = λ m frame a b ra rb. same m frame a b ra rb (case v m frame a);
+        bytes = λ m frame a b n ra rb. bytes-same m frame a b ra rb n;
+      }
+
+-- a program's buffer has room for the reply that `board::handle` answers with
 pub reply-long : (m : Meter) (frame b : List ℕ) {h : Handled} {n : ℕ} → h ≡ boardOf m frame b .handled → h .reply ≡ Sent n → n ≤ 256
-reply-long m frame b is e = replies-sealed .long m frame b _ (ap (λ (x : Handled). x .reply) (sym is) ∙ e)
-
--- ---- within limits
-
-kept-within : (m : Meter) (frame b : List ℕ) (n : Meter) → meterOk m ≡ true → Kept m frame b n → meterOk n ≡ true
-kept-within m frame b n h (inl e) = ap meterOk e ∙ h
-kept-within m frame b n h (inr s) = ap meterOk (s .2 ∙ sym (write-when .stored m frame (s .1 .1))) ∙ write-within m frame h
-
--- a frame keeps a record within limits
-pub frame-within : (m : Meter) (frame b : List ℕ) → meterOk m ≡ true → meterOk (boardOf m frame b .handled .meter) ≡ true
-frame-within m frame b h = kept-within m frame b _ h (untouched .altered m frame b)
-
--- ---- the buffer is not seen
-
-module _ (m : Meter) (frame a b : List ℕ) (ra : 256 ≤ length a) (rb : 256 ≤ length b) where
-  moved : Heeds m frame a → Heeds m frame b
-  moved h = record { within = h .within; room = rb; heard = h .heard }
-
-  own-moved : Answers m frame a → Answers m frame b
-  own-moved h = record { heeds = moved (h .heeds); own = h .own }
-
-  abbrev handled : {x y : Outcome} → x ≡ y → x .handled ≡ y .handled
-  handled e = ap (λ (o : Outcome). o .handled) e
-
-  same : View m frame a → boardOf m frame a .handled ≡ boardOf m frame b .handled
-  same (out h e) = handled e ∙ handled (board-1 m frame b h)
-  same (short h k e) = absurd (omega arith)
-  same (unheard h k q e) = handled e ∙ handled (board-silent m frame b h (le-ltb _ _ rb) q)
-  same (for-all bytes n h z g e) = handled e ∙ sym (handled (gives-quiet m frame b (moved h) z bytes n g))
-  same (for-one bytes n h g e) = handled e ∙ sym (handled (gives-sent m frame b (own-moved h) bytes n g))
-
-  bytes-same : (n : ℕ) → said (boardOf m frame a) ≡ Sent n → take n (boardOf m frame a .buffer) ≡ take n (boardOf m frame b .buffer)
-  bytes-same n h =
-      let s = sent m frame a (view m frame a) n h in
-      let e = gives-sent m frame b (own-moved (s .answers)) (s .bytes) (s .next) (s .gives) in
-      let there : Reply-sent m frame b n = record { bytes = s .bytes; next = s .next; answers = own-moved (s .answers); gives = s .gives; long = s .long; after = ap (λ (o : Outcome). o .buffer) e } in
-      front m frame a n s ∙ sym (front m frame b n there)
-
-pub buffer-unseen : BufferUnseen
-buffer-unseen =
-    record {
-      same = λ m frame a b ra rb. same m frame a b ra rb (view m frame a);
-      bytes = λ m frame a b n ra rb. bytes-same m frame a b ra rb n;
-    }
+reply-long m frame b is e = replies-sealed own own-passes .long m frame b _ (ap (λ (x : Handled). x .reply) (sym is) ∙ e)

@@ -5,6 +5,8 @@ use mathlib.Core.Bool.{Bool, true, false, cond}
 use mathlib.Core.List.{List, [], _∷_}
 use Prim.Native.Nat.{ℕ, _+_}
 use native.Mathlib.Omega.{arith}
+use lib.Dec.{T}
+use Rattle.directory.specs.Views.{View, passes}
 use Rattle.modbus.proofs.Frames.{neither}
 use Rattle.meter.specs.declared.samples.Sample.{Sample}
 use Rattle.meter.specs.declared.groups.Setup.{Setup}
@@ -18,21 +20,12 @@ use Rattle.meter.proofs.Cases.{chosen}
 use Rattle.meter.proofs.Sums.{after-adds}
 use Rattle.meter.proofs.Answers.{sample-within}
 use Rattle.store.specs.Writes.{replacedIn, storedOf}
-use Rattle.board.specs.Board.{boardOf}
-use Rattle.board.specs.Answers.{Heeds, Stores}
-use Rattle.board.proofs.Answers.{untouched, frame-within}
+use Rattle.board.specs.Board.{boardIn}
+use Rattle.demands.specs.Frames.{Heeds, Stores}
+use Rattle.demands.proofs.Frames.{untouched, frame-within}
 use Rattle.demands.specs.Histories.{Event, afterEvent, eventAdds, isTaken, afterAll, exactOf, anyTaken, AfterEvents}
 
--- ---- one event
-
--- what sees no setup words sees nothing of a frame
-module _ {A : Type 0} (see : Meter → A) (blind : (m : Meter) (setup : Setup) → see (withSetup m setup) ≡ see m) where
-  altered-unseen : (m : Meter) (frame b : List ℕ) (n : Meter) → (n ≡ m) ⊎ (Heeds m frame b × Stores m frame × (n ≡ storedOf m frame)) → see n ≡ see m
-  altered-unseen m frame b n (inl e) = ap see e
-  altered-unseen m frame b n (inr s) = ap see (s .2) ∙ blind m (replacedIn (m .setup) frame)
-
-  frame-unseen : (m : Meter) (frame b : List ℕ) → see (boardOf m frame b .handled .meter) ≡ see m
-  frame-unseen m frame b = altered-unseen m frame b _ (untouched .altered m frame b)
+-- ---- a sample
 
 -- what is the same of the next meter is the same after a sample
 module _ {A : Type 0} (see : Meter → A) (blind : (m : Meter) (s : Sample) → see (nextOf m s) ≡ see m) where
@@ -46,53 +39,65 @@ module _ {A : Type 0} (see : Meter → A) (blind : (m : Meter) (s : Sample) → 
   unfolding afterOf
   sample-unseen m s = chosen-unseen (meterOk m) (sampleOk (meterT m) s) (meterWithinTop (nextOf m s)) m (nextOf m s) (blind m s)
 
-event-within : (m : Meter) (x : Event) → meterOk m ≡ true → meterOk (afterEvent m x) ≡ true
-event-within m (Event.sample s) h = sample-within m s h
-event-within m (Event.frame bytes b) h = frame-within m bytes b h
-
-event-adds : (e : ℕ) (m : Meter) (x : Event) → valueOf (energyAt e (afterEvent m x)) ≡ valueOf (energyAt e m) + eventAdds e m x
-event-adds e m (Event.sample s) = after-adds e m s
-event-adds e m (Event.frame bytes b) = frame-unseen (λ m. valueOf (energyAt e m)) (λ m s. refl) m bytes b ∙ omega arith
-
--- ---- and so for any
-
-within : (m : Meter) (xs : List Event) → meterOk m ≡ true → meterOk (afterAll m xs) ≡ true
-unfolding afterAll
-within m [] h = h
-within m (x ∷ xs) h = within (afterEvent m x) xs (event-within m x h)
-
--- what neither sees is the same after any
-module _ {A : Type 0} (see : Meter → A) (frames : (m : Meter) (setup : Setup) → see (withSetup m setup) ≡ see m) (samples : (m : Meter) (s : Sample) → see (nextOf m s) ≡ see m) where
-  event-unseen : (m : Meter) (x : Event) → see (afterEvent m x) ≡ see m
-  event-unseen m (Event.sample s) = sample-unseen see samples m s
-  event-unseen m (Event.frame bytes b) = frame-unseen see frames m bytes b
-
-  all-unseen : (m : Meter) (xs : List Event) → see (afterAll m xs) ≡ see m
-  unfolding afterAll
-  all-unseen m [] = refl
-  all-unseen m (x ∷ xs) = all-unseen (afterEvent m x) xs ∙ event-unseen m x
-
-grows : (e : ℕ) (m : Meter) (xs : List Event) → valueOf (energyAt e (afterAll m xs)) ≡ valueOf (energyAt e m) + exactOf e m xs
-unfolding afterAll exactOf
-grows e m [] = omega arith
-grows e m (x ∷ xs) = omega (arith, grows e (afterEvent m x) xs, event-adds e m x)
-
-pub after-events : AfterEvents
-after-events = record {
-  within = within;
-  given = all-unseen (λ m. m .given) (λ m s. refl) (λ m s. refl);
-  grows = grows;
-}
-
--- ---- without an accepted sample
-
 untaken-adds : (e : ℕ) (m : Meter) (x : Event) → isTaken m x ≡ false → eventAdds e m x ≡ 0
 untaken-adds e m (Event.sample s) h = ap (λ (t : Bool). cond t (carriesFor e s) 0) h
 untaken-adds e m (Event.frame bytes b) h = refl
 
-pub idle-adds : (e : ℕ) (m : Meter) (xs : List Event) → anyTaken m xs ≡ false → exactOf e m xs ≡ 0
-unfolding exactOf anyTaken
-idle-adds e m [] h = refl
-idle-adds e m (x ∷ xs) h =
-    let t = neither (isTaken m x) (anyTaken (afterEvent m x) xs) h in
-    omega (arith, untaken-adds e m x (t .0), idle-adds e (afterEvent m x) xs (t .1))
+module _ (v : View) (good : T (passes v)) where
+  -- ---- a frame, and any event
+
+  -- what sees no setup words sees nothing of a frame
+  module _ {A : Type 0} (see : Meter → A) (blind : (m : Meter) (setup : Setup) → see (withSetup m setup) ≡ see m) where
+    altered-unseen : (m : Meter) (frame b : List ℕ) (n : Meter) → (n ≡ m) ⊎ (Heeds m frame b × Stores m frame × (n ≡ storedOf m frame)) → see n ≡ see m
+    altered-unseen m frame b n (inl e) = ap see e
+    altered-unseen m frame b n (inr s) = ap see (s .2) ∙ blind m (replacedIn (m .setup) frame)
+
+    frame-unseen : (m : Meter) (frame b : List ℕ) → see (boardIn v m frame b .handled .meter) ≡ see m
+    frame-unseen m frame b = altered-unseen m frame b _ (untouched v good .altered m frame b)
+
+  event-within : (m : Meter) (x : Event) → meterOk m ≡ true → meterOk (afterEvent v m x) ≡ true
+  event-within m (Event.sample s) h = sample-within m s h
+  event-within m (Event.frame bytes b) h = frame-within v good m bytes b h
+
+  event-adds : (e : ℕ) (m : Meter) (x : Event) → valueOf (energyAt e (afterEvent v m x)) ≡ valueOf (energyAt e m) + eventAdds e m x
+  event-adds e m (Event.sample s) = after-adds e m s
+  event-adds e m (Event.frame bytes b) = frame-unseen (λ m. valueOf (energyAt e m)) (λ m s. refl) m bytes b ∙ omega arith
+
+  -- ---- and so for any
+
+  within : (m : Meter) (xs : List Event) → meterOk m ≡ true → meterOk (afterAll v m xs) ≡ true
+  unfolding afterAll
+  within m [] h = h
+  within m (x ∷ xs) h = within (afterEvent v m x) xs (event-within m x h)
+
+  -- what neither sees is the same after any
+  module _ {A : Type 0} (see : Meter → A) (frames : (m : Meter) (setup : Setup) → see (withSetup m setup) ≡ see m) (samples : (m : Meter) (s : Sample) → see (nextOf m s) ≡ see m) where
+    event-unseen : (m : Meter) (x : Event) → see (afterEvent v m x) ≡ see m
+    event-unseen m (Event.sample s) = sample-unseen see samples m s
+    event-unseen m (Event.frame bytes b) = frame-unseen see frames m bytes b
+
+    all-unseen : (m : Meter) (xs : List Event) → see (afterAll v m xs) ≡ see m
+    unfolding afterAll
+    all-unseen m [] = refl
+    all-unseen m (x ∷ xs) = all-unseen (afterEvent v m x) xs ∙ event-unseen m x
+
+  grows : (e : ℕ) (m : Meter) (xs : List Event) → valueOf (energyAt e (afterAll v m xs)) ≡ valueOf (energyAt e m) + exactOf v e m xs
+  unfolding afterAll exactOf
+  grows e m [] = omega arith
+  grows e m (x ∷ xs) = omega (arith, grows e (afterEvent v m x) xs, event-adds e m x)
+
+  pub after-events : AfterEvents v
+  after-events = record {
+    within = within;
+    given = all-unseen (λ m. m .given) (λ m s. refl) (λ m s. refl);
+    grows = grows;
+  }
+
+  -- ---- without an accepted sample
+
+  pub idle-adds : (e : ℕ) (m : Meter) (xs : List Event) → anyTaken v m xs ≡ false → exactOf v e m xs ≡ 0
+  unfolding exactOf anyTaken
+  idle-adds e m [] h = refl
+  idle-adds e m (x ∷ xs) h =
+      let t = neither (isTaken m x) (anyTaken v (afterEvent v m x) xs) h in
+      omega (arith, untaken-adds e m x (t .0), idle-adds e (afterEvent v m x) xs (t .1))

@@ -1,3 +1,6 @@
+pub mod Gives
+pub mod Replies
+pub mod Frames
 pub mod Shown
 pub mod Polls
 pub mod Polled

@@ -4,12 +4,13 @@ use mathlib.Core.Bool.{false}
 use mathlib.Core.List.{List, [], _∷_}
 use Prim.Native.Nat.{ℕ, _≤_, _<_}
 use native.Mathlib.Omega.{arith}
+use lib.Dec.{T}
 use lib.ListN.{length, getD, replicate}
 use Rattle.ratio.specs.declared.Ratios.{Ratios}
 use Rattle.directory.specs.Item.{none}
-use Rattle.directory.specs.Table.{directory}
+use Rattle.directory.specs.Views.{View, passes}
 use Rattle.reading.specs.declared.Answer.the-variants.{Reading}
-use Rattle.collector.specs.Collector.{collectorOf}
+use Rattle.collector.specs.Collector.{collectorIn}
 use Rattle.meter.specs.declared.Answer.the-variants.{Accepted}
 use Rattle.meter.specs.declared.given.Given.{Given}
 use Rattle.meter.specs.declared.Meter.{Meter}
@@ -28,48 +29,49 @@ use Rattle.demands.proofs.Polled.{every-item-polled}
 use Rattle.demands.proofs.Histories.{after-events}
 use Rattle.demands.proofs.Types.{zeros, blank-sample, types-kept}
 
--- a frame is no sample
-idle : (m : Meter) (buffer : List ℕ) (fs : List (List ℕ)) → anyTaken m (frames buffer fs) ≡ false
-unfolding anyTaken
-idle m buffer [] = refl
-idle m buffer (f ∷ fs) = idle (afterEvent m (Event.frame f buffer)) buffer fs
+module _ (v : View) (good : T (passes v)) where
+  -- a frame is no sample
+  idle : (m : Meter) (buffer : List ℕ) (fs : List (List ℕ)) → anyTaken v m (frames buffer fs) ≡ false
+  unfolding anyTaken
+  idle m buffer [] = refl
+  idle m buffer (f ∷ fs) = idle (afterEvent v m (Event.frame f buffer)) buffer fs
 
--- the read of one item
-poll : (address i : ℕ) → 1 ≤ address → i < length directory → ItemPoll address i
-poll address i some l = (
-  record {
-    request = requestFor address (getD directory i none);
-    buffer = replicate 256 0;
-    index = 0;
-    asks = record { hears = every-item-polled .hears address i some l; first = i; count = 1; items = every-item-polled .items address i l };
-    own = refl;
-    room = omega arith;
-    below = omega arith;
-    shows = ap (λ (k : ℕ). getD directory k none .quantity) (omega arith);
-  },
-  omega arith,
-)
+  -- the read of one item
+  poll : (address i : ℕ) → 1 ≤ address → i < length (v .seen) → ItemPoll v address i
+  poll address i some l = (
+    record {
+      request = requestFor address (getD (v .seen) i none);
+      buffer = replicate 256 0;
+      index = 0;
+      asks = record { hears = every-item-polled v good .hears address i some l; first = i; count = 1; items = every-item-polled v good .items address i l };
+      own = refl;
+      room = omega arith;
+      below = omega arith;
+      shows = ap (λ (k : ℕ). getD (v .seen) k none .quantity) (omega arith);
+    },
+    omega arith,
+  )
 
-pub not-empty : NotEmpty
-not-empty = record {
-  history = λ address r events between made still. (record { address = address; ratios = r; made = made; events = events; between = between; idle = still }, refl, refl, refl, refl);
-  idle = idle;
-  poll = poll;
-  typed = more {x = Event.sample noSample} blank-sample (more {x = Event.frame (0 ∷ []) []} (λ i. zeros 1 256 i (omega arith)) nothing);
-}
+  pub not-empty : NotEmpty v
+  not-empty = record {
+    history = λ address r events between made still. (record { address = address; ratios = r; made = made; events = events; between = between; idle = still }, refl, refl, refl, refl);
+    idle = idle;
+    poll = poll;
+    typed = more {x = Event.sample noSample} blank-sample (more {x = Event.frame (0 ∷ []) []} (λ i. zeros 1 256 i (omega arith)) nothing);
+  }
 
--- ---- the round trip over histories
+  -- ---- the round trip over histories
 
-polls : (address : ℕ) (r : Ratios) (xs : List Event) → newOf address r .answer ≡ Accepted → AllTyped xs → (q : ℕ) (p : Poll address q) → collected r (afterAll (newOf address r .meter) xs) p ≡ Reading (meaningOf (afterAll (newOf address r .meter) xs) q)
-polls address r xs made typed q p =
-    let first = newOf address r .meter in
-    let m = afterAll first xs in
-    let same : m .given ≡ record { address = address; ratios = r } = after-events .given first xs ∙ ap (λ (x : Meter). x .given) (new-blank address r) in
-    let own = ap (λ (g : Given). g .address) same in
-    let meets : Meets m (p .request) (p .buffer) = record { within = after-events .within first xs (made-within address r made); room = p .room; own = own ∙ sym (p .own) } in
-    ap (λ (g : Given). collectorOf (p .request) (replyTo m (p .request) (p .buffer)) (g .ratios) (p .index)) (sym same)
-    ∙ round-trip .reads m (p .request) (p .buffer) (p .index) (types-kept .events first xs (types-kept .new address r) typed) meets (p .asks) (p .below)
-    ∙ ap (λ (x : ℕ). Reading (meaningOf m x)) (p .shows)
+  polls : (address : ℕ) (r : Ratios) (xs : List Event) → newOf address r .answer ≡ Accepted → AllTyped xs → (q : ℕ) (p : Poll v address q) → collected v r (afterAll v (newOf address r .meter) xs) p ≡ Reading (meaningOf (afterAll v (newOf address r .meter) xs) q)
+  polls address r xs made typed q p =
+      let first = newOf address r .meter in
+      let m = afterAll v first xs in
+      let same : m .given ≡ record { address = address; ratios = r } = after-events v good .given first xs ∙ ap (λ (x : Meter). x .given) (new-blank address r) in
+      let own = ap (λ (g : Given). g .address) same in
+      let meets : Meets m (p .request) (p .buffer) = record { within = after-events v good .within first xs (made-within address r made); room = p .room; own = own ∙ sym (p .own) } in
+      ap (λ (g : Given). collectorIn v (p .request) (replyTo v m (p .request) (p .buffer)) (g .ratios) (p .index)) (sym same)
+      ∙ round-trip v good .reads m (p .request) (p .buffer) (p .index) (types-kept v good .events first xs (types-kept v good .new address r) typed) meets (p .asks) (p .below)
+      ∙ ap (λ (x : ℕ). Reading (meaningOf m x)) (p .shows)
 
-pub reads-always : ReadsAlways
-reads-always = record { polls = polls }
+  pub reads-always : ReadsAlways v
+  reads-always = record { polls = polls }

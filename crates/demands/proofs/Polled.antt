@@ -4,7 +4,7 @@ use mathlib.Core.Bool.{true, false, not, and-false}
 use mathlib.Core.List.{List, [], _∷_, _++_}
 use Prim.Native.Nat.{ℕ, zero, suc, _≤_, _<_}
 use native.Mathlib.Omega.{arith}
-use lib.Dec.{eqb}
+use lib.Dec.{T, eqb}
 use lib.ListN.{length, getD}
 use borrow.Author.Tests.{eq-eqb, le-ltb}
 use Rattle.crc.proofs.Laws.{intact-is-sealed}
@@ -13,10 +13,11 @@ use Rattle.directory.specs.declared.Item.{Item}
 use Rattle.directory.specs.declared.Span.the-variants.{Items}
 use Rattle.directory.specs.declared.Found.the-variants.{At}
 use Rattle.directory.specs.Item.{none}
-use Rattle.directory.specs.Table.{directory}
 use Rattle.directory.specs.Run.{findIn, runFrom, runIn}
+use Rattle.directory.specs.Views.{View, passes}
 use Rattle.directory.proofs.Order.{ruled-narrow}
-use Rattle.directory.proofs.Rules.{directory-ruled, directory-rules}
+use Rattle.directory.proofs.Views.{passes-tested, passes-ruled, passes-long}
+use Rattle.directory.proofs.Rules.{directory-rules}
 use Rattle.modbus.specs.Frame.{wordNumber, startOf, silence}
 use Rattle.modbus.specs.Read.{readIn}
 use Rattle.modbus.proofs.Judged.{read-when}
@@ -26,49 +27,50 @@ use Rattle.collector.proofs.Requests.{heard-so}
 use Rattle.demands.specs.Polled.{requestFor, EveryItemPolled}
 use Rattle.demands.proofs.Polls.{with-data}
 
--- an item of one word or two is a run by itself
-module _ (i : ℕ) (start : ℕ) (it : Item) (same : getD directory i none ≡ it) (found : findIn directory start 0 ≡ At i) where
-  alone : (n : ℕ) → it .words ≡ n → 1 ≤ n → n ≤ 2 → runIn directory start n ≡ Items i 1
-  unfolding runIn runFrom
-  alone zero e a b = absurd (omega (arith, a))
-  alone (suc zero) e a b = rw (found, same, e) refl
-  alone (suc (suc zero)) e a b = rw (found, same, e) refl
-  alone (suc (suc (suc n))) e a b = absurd (omega (arith, b))
+module _ (v : View) (good : T (passes v)) where
+  -- an item of one word or two is a run by itself
+  module _ (i : ℕ) (start : ℕ) (it : Item) (same : getD (v .seen) i none ≡ it) (found : findIn (v .seen) start 0 ≡ At i) where
+    alone : (n : ℕ) → it .words ≡ n → 1 ≤ n → n ≤ 2 → runIn (v .seen) start n ≡ Items i 1
+    unfolding runIn runFrom
+    alone zero e a b = absurd (omega (arith, a))
+    alone (suc zero) e a b = rw (found, same, e) refl
+    alone (suc (suc zero)) e a b = rw (found, same, e) refl
+    alone (suc (suc (suc n))) e a b = absurd (omega (arith, b))
 
-module _ (address i : ℕ) (l : i < length directory) where
-  abbrev it : Item
-  it = getD directory i none
+  module _ (address i : ℕ) (l : i < length (v .seen)) where
+    abbrev it : Item
+    it = getD (v .seen) i none
 
-  abbrev request : List ℕ
-  request = requestFor address it
+    abbrev request : List ℕ
+    request = requestFor address it
 
-  start : startOf request ≡ it .start
-  start = omega arith
+    start : startOf request ≡ it .start
+    start = omega arith
 
-  number : wordNumber request ≡ it .words
-  number = omega arith
+    number : wordNumber request ≡ it .words
+    number = omega arith
 
-  pub items : readIn directory request ≡ Items i 1
-  items =
-      let narrow = ruled-narrow directory directory-ruled i l in
-      read-when .items directory request i 1 .1 (
-        refl,
-        rw number (rw (le-ltb (it .words) 1 (narrow .some), le-ltb 120 (it .words) (omega (arith, narrow .few))) refl),
-        rw (start, number) (alone i (it .start) it refl (directory-rules .found i l) (it .words) refl (narrow .some) (narrow .few)),
-      )
+    pub items : readIn v request ≡ Items i 1
+    items =
+        let narrow = ruled-narrow (v .seen) (passes-ruled v good) i l in
+        read-when .items v request i 1 .1 (
+          refl,
+          rw number (rw (le-ltb (it .words) 1 (narrow .some), le-ltb (v .most) (it .words) (omega (arith, narrow .few, passes-long v good))) refl),
+          rw (start, number) (alone i (it .start) it refl (directory-rules .found (v .seen) (passes-tested v good) i l) (it .words) refl (narrow .some) (narrow .few)),
+        )
 
-  loud : silence address request ≡ false
-  unfolding silence
-  loud = rw (intact-is-sealed .passes ((address ∷ 0x03 ∷ []) ++ word (it .start) ++ word (it .words)), eq-eqb address address refl, and-false (not (eqb address 0))) refl
+    loud : silence address request ≡ false
+    unfolding silence
+    loud = rw (intact-is-sealed .passes ((address ∷ 0x03 ∷ []) ++ word (it .start) ++ word (it .words)), eq-eqb address address refl, and-false (not (eqb address 0))) refl
 
-  pub hears : 1 ≤ address → heard request ≡ true
-  hears some = heard-so request (record { own = λ z. omega (arith, z, some); read = refl; loud = loud })
+    pub hears : 1 ≤ address → heard request ≡ true
+    hears some = heard-so request (record { own = λ z. omega (arith, z, some); read = refl; loud = loud })
 
-pub every-item-polled : EveryItemPolled
-every-item-polled = record {
-  hears = λ address i some l. hears address i l some;
-  items = items;
-  data-sent = λ m i b ok l room.
-      with-data .same m (requestFor (m .given .address) (getD directory i none)) b (record { within = ok; room = room; own = refl }) .0
-      (record { hears = hears (m .given .address) i l (own-address m ok); first = i; count = 1; items = items (m .given .address) i l });
-}
+  pub every-item-polled : EveryItemPolled v
+  every-item-polled = record {
+    hears = λ address i some l. hears address i l some;
+    items = items;
+    data-sent = λ m i b ok l room.
+        with-data v good .same m (requestFor (m .given .address) (getD (v .seen) i none)) b (record { within = ok; room = room; own = refl }) .0
+        (record { hears = hears (m .given .address) i l (own-address m ok); first = i; count = 1; items = items (m .given .address) i l });
+  }

@@ -19,11 +19,13 @@ use Rattle.ratio.specs.declared.Ratios.{Ratios}
 use Rattle.ratio.specs.Ratios.{ratiosOk}
 use Rattle.directory.specs.declared.Item.{Item}
 use Rattle.directory.specs.Item.{none}
-use Rattle.directory.specs.Order.{every, roomOf}
-use Rattle.directory.specs.Table.{directory}
+use Rattle.directory.specs.Order.{roomOf}
 use Rattle.directory.specs.Run.{runItems}
-use Rattle.directory.proofs.Order.{every-at, ruled-narrow}
-use Rattle.directory.proofs.Rules.{directory-ruled}
+use Rattle.directory.specs.Views.{View, passes}
+use Rattle.directory.proofs.Order.{ruled-narrow}
+use Rattle.directory.proofs.Rules.{directory-rules}
+use Rattle.directory.proofs.Shapes.{shape}
+use Rattle.directory.proofs.Views.{passes-tested, passes-ruled, passes-room}
 use Rattle.modbus.specs.Frame.{addressOf, functionOf, wordNumber, isRead, isWrite, silence}
 use Rattle.modbus.specs.Replies.{errorBytes, errorReply, echoReply}
 use Rattle.modbus.proofs.Frames.{shaped-length}
@@ -39,14 +41,14 @@ use Rattle.reading.specs.Cases.{told}
 use Rattle.reading.specs.Readings.{readingOf}
 use Rattle.board.specs.Reads.{itemsSent, dataReply}
 use Rattle.board.specs.Board.{Outcome}
-use Rattle.board.specs.Answers.{Answers}
+use Rattle.demands.specs.Frames.{Answers}
 use Rattle.board.proofs.Sent.{length-items}
-use Rattle.board.proofs.Views.{Gives, View, view}
-use Rattle.board.proofs.Views.Gives.{other, misread, shows, miswritten, stores}
-use Rattle.board.proofs.Views.View.{out, short, unheard, for-all, for-one}
-use Rattle.board.proofs.Replies.{gives-long, gives-whole, sent-front, echo-function}
-use Rattle.board.proofs.Answers.{obeys}
-use Rattle.collector.specs.Collector.{heard, isReadError, placeOf, collectorOf}
+use Rattle.demands.proofs.Gives.{Gives, Case, case}
+use Rattle.demands.proofs.Gives.Gives.{other, misread, shows, miswritten, stores}
+use Rattle.demands.proofs.Gives.Case.{out, short, unheard, for-all, for-one}
+use Rattle.demands.proofs.Replies.{gives-long, gives-whole, sent-front, echo-function}
+use Rattle.demands.proofs.Frames.{obeys}
+use Rattle.collector.specs.Collector.{heard, isReadError, placeOf, collectorIn}
 use Rattle.collector.specs.Answers.{Asks, Asked, Fits, itemAt, valueIn, Comes}
 use Rattle.collector.proofs.Requests.{Hears, hears, heard-so}
 use Rattle.collector.proofs.Places.{run-length, run-at}
@@ -57,12 +59,12 @@ use Rattle.demands.specs.RoundTrip.{replyIn, replyTo, Meets, WithData, R
 
 -- ---- the words of an item, among those of a run
 
-split : (m : Meter) (its : List Item) (i : ℕ) → i < length its → itemsSent m its ≡ itemsSent m (take i its) ++ (sent (getD its i none .words) (shownOf m (getD its i none .quantity)) ++ itemsSent m (drop (suc i) its))
+split : (shown : ℕ → ℕ) (its : List Item) (i : ℕ) → i < length its → itemsSent shown its ≡ itemsSent shown (take i its) ++ (sent (getD its i none .words) (shown (getD its i none .quantity)) ++ itemsSent shown (drop (suc i) its))
 unfolding itemsSent
-split m [] i l = absurd (omega (arith, l))
-split m (it ∷ its) zero l = refl
-split m (it ∷ its) (suc i) l =
-    ap (λ (x : List ℕ). sent (it .words) (shownOf m (it .quantity)) ++ x) (split m its i (omega (arith, l))) ∙ sym (append-assoc (sent (it .words) (shownOf m (it .quantity))) _ _)
+split shown [] i l = absurd (omega (arith, l))
+split shown (it ∷ its) zero l = refl
+split shown (it ∷ its) (suc i) l =
+    ap (λ (x : List ℕ). sent (it .words) (shown (it .quantity)) ++ x) (split shown its i (omega (arith, l))) ∙ sym (append-assoc (sent (it .words) (shown (it .quantity))) _ _)
 
 -- a word is two bytes
 two-bytes : (n : ℕ) → n ≤ 2 → 256 ^ (2 * n) ≡ 65536 ^ n
@@ -71,149 +73,7 @@ two-bytes (suc zero) h = refl
 two-bytes (suc (suc zero)) h = refl
 two-bytes (suc (suc (suc n))) h = absurd (omega (arith, h))
 
--- what an item shows fits its words
-directory-roomy : T (every (λ (it : Item). leb (roomOf it) (2 * it .words)) directory)
-unfolding every directory
-directory-roomy = tt
-
--- ---- the reply
-
-module _ (m : Meter) (request b : List ℕ) (meets : Meets m request b) (a : Asks request) where
-  abbrev its : List Item
-  its = runItems directory (a .first) (a .count)
-
-  abbrev reply : List ℕ
-  reply = dataReply request (itemsSent m its)
-
-  h : Hears request
-  h = hears request (a .hears)
-
-  answers : Answers m request b
-  answers = record { heeds = record { within = meets .within; room = meets .room; heard = rw (meets .own) (h .loud) }; own = h .own }
-
-  gives : Gives m request reply m
-  gives = shows (a .first) (a .count) (h .read) (a .items) refl refl
-
-  pub replies : replyTo m request b ≡ reply
-  replies =
-      let o = obeys .reads m request b (a .first) (a .count) answers (h .read) (a .items) in
-      ap (λ (x : Outcome). replyIn (x .handled .reply) (x .buffer)) o ∙ sent-front reply b (omega (arith, gives-long m request reply m gives, meets .room))
-
-  -- ---- as the collector judges it
-
-  long : length reply ≡ 5 + 2 * wordNumber request
-  long =
-      let bs = addressOf request ∷ functionOf request ∷ 2 * wordNumber request ∷ itemsSent m its in
-      length-sealed bs ∙ omega (arith, length-items m its, legal-read (a .items) .sends)
-
-  ratios : ratiosOk (m .given .ratios) ≡ true
-  ratios = own-ratios m (meets .within)
-
-  -- the function of the reply is the request's
-  function : functionOf reply ≡ 0x03
-  function = eqb-true (functionOf request) 0x03 (h .read)
-
-  pub fits : Fits request reply (m .given .ratios)
-  fits =
-      let other : isReadError reply ≡ false = rw function refl in
-      let same : isRead reply ≡ true = rw function refl in
-      record {
-        sound = record {
-          asked = record { ratios = ratios; asks = a };
-          long = simp (le-ltb (length reply) 5 (omega (arith, long)), le-ltb 256 (length reply) (omega (arith, long, legal-read (a .items) .most)));
-          whole = gives-whole m request reply m gives;
-          own = simp (eq-eqb (addressOf request) (addressOf request) refl, same);
-        };
-        words = other;
-        fits = simp (eq-eqb (2 * wordNumber request) (2 * wordNumber request) refl, eq-eqb (length reply) (5 + 2 * wordNumber request) long);
-      }
-
-  -- ---- item by item
-
-  module _ (index : ℕ) (below : index < a .count) where
-    abbrev it : Item
-    it = itemAt a index
-
-    inside : a .first + a .count ≤ length directory
-    inside = legal-read (a .items) .inside
-
-    known : a .first + index < length directory
-    known = omega (arith, inside, below)
-
-    fitting-words : Shows m (it .quantity) → shownOf m (it .quantity) < 65536 ^ it .words
-    fitting-words fit =
-        let room = leb-true (roomOf it) (2 * it .words) (every-at (λ (x : Item). leb (roomOf x) (2 * x .words)) directory directory-roomy (a .first + index) known) in
-        let narrow = ruled-narrow directory directory-ruled (a .first + index) known in
-        rw (sym (two-bytes (it .words) (narrow .few))) (lt-of-lt-of-le (in-room (a .first + index) known (fit .fits)) (pow-le-pow-right (omega arith) room))
-
-    value-back : Shows m (it .quantity) → valueIn a reply index ≡ shownOf m (it .quantity)
-    value-back fit =
-        let v = shownOf m (it .quantity) in
-        let before = addressOf request ∷ functionOf request ∷ 2 * wordNumber request ∷ itemsSent m (take index its) in
-        let after = itemsSent m (drop (suc index) its) in
-        let crc = onLine (crcOf (addressOf request ∷ functionOf request ∷ 2 * wordNumber request ∷ itemsSent m its)) in
-        let same = run-at directory (a .first) (a .count) index below in
-        let parts : itemsSent m its ≡ itemsSent m (take index its) ++ (sent (it .words) v ++ after) =
-        split m its index (omega (arith, below, run-length directory (a .first) (a .count) inside)) ∙ ap (λ (x : Item). itemsSent m (take index its) ++ (sent (x .words) (shownOf m (x .quantity)) ++ after)) same in
-        let whole : reply ≡ before ++ sent (it .words) v ++ (after ++ crc) =
-        ap (λ (l : List ℕ). (addressOf request ∷ functionOf request ∷ 2 * wordNumber request ∷ l) ++ crc) parts
-        ∙ append-assoc before (sent (it .words) v ++ after) crc
-        ∙ ap (λ (l : List ℕ). before ++ l) (append-assoc (sent (it .words) v) after crc)
-        ∙ sym (append-assoc before (sent (it .words) v) (after ++ crc)) in
-        let here : placeOf its index ≡ length before = omega (arith, length-items m (take index its)) in
-        ap (λ (at : ℕ). valueAt (it .words) reply at) here
-        ∙ ap (λ (l : List ℕ). valueAt (it .words) l (length before)) whole
-        ∙ read-back .between (it .words) v before (after ++ crc) (fitting-words fit)
-
-    reads : Shows m (it .quantity) → collectorOf request reply (m .given .ratios) index ≡ Reading (meaningOf m (it .quantity))
-    unfolding fits
-    reads fit =
-        exactly-when .rows request reply (m .given .ratios) index .reading (meaningOf m (it .quantity)) .1
-        (record {
-          holds = record { fits = fits; below = below };
-          reading = ap (readingOf (meterT m) it) (value-back fit) ∙ item-read m (meets .within) (a .first + index) known fit;
-        })
-
-    -- through the bytes of the reply
-    pub collects : Shows m (it .quantity) → collectorOf request (replyTo m request b) (m .given .ratios) index ≡ Reading (meaningOf m (it .quantity))
-    collects fit = ap (λ (x : List ℕ). collectorOf request x (m .given .ratios) index) replies ∙ reads fit
-
-  pub past : (index : ℕ) → a .count ≤ index → Comes request reply (m .given .ratios) index (refusedBy 12)
-  unfolding fits
-  past index over = exactly-when .rows request reply (m .given .ratios) index .row-12 .1 (record { fits = fits; past = over })
-
--- ---- an error reply to such a request
-
-error-given : (request : List ℕ) (r : Ratios) (index code : ℕ) → Asked request r → 1 ≤ code → code ≤ 3 → Comes request (errorBytes request code) r index (errorBy code)
-error-given request r index code asked some most =
-    exactly-when .rows request reply r index .error code .1
-    (record {
-      sound = record {
-        asked = asked;
-        long = refl;
-        whole = intact-is-sealed .passes (addressOf request ∷ (functionOf request + 0x80) ∷ code ∷ []);
-        own = simp (eq-eqb (addressOf request) (addressOf request) refl, error, other);
-      };
-      error = error;
-      long = refl;
-      says = refl;
-      some = some;
-      most = most;
-    })
-  where
-    reply : List ℕ
-    reply = errorBytes request code
-
-    three : functionOf request ≡ 0x03
-    three = eqb-true (functionOf request) 0x03 (hears request (asked .asks .hears) .read)
-
-    error : isReadError reply ≡ true
-    error = rw three refl
-
-    other : isRead reply ≡ false
-    other = rw three refl
-
--- ---- a reply of function 0x03 is due to such a request alone
+-- ---- what has another function than data
 
 no-read : {A : Type 0} → isRead [] ≡ true → A
 no-read e = absurd (false≢true e)
@@ -229,34 +89,174 @@ no-echo frame bytes long w e h =
     let f : functionOf frame ≡ 0x03 = sym second ∙ eqb-true (functionOf (echoReply frame)) 0x03 (sym (ap isRead e) ∙ h) in
     let y : ⊥ = omega (arith, f, eqb-true (functionOf frame) 0x10 w) in absurd y
 
-module _ (m : Meter) (request b : List ℕ) (meets : Meets m request b) where
-  -- what is given is a data reply, or has another function
-  from-data : (bytes : List ℕ) (n : Meter) → Answers m request b → isRead bytes ≡ true → Gives m request bytes n → Asks request
-  from-data bytes n ans h (other r w e k) = no-error request bytes Function e h
-  from-data bytes n ans h (misread code r s e k) = no-error request bytes code e h
-  from-data bytes n ans h (shows first count r s e k) =
-      let loud : silence (addressOf request) request ≡ false = rw (sym (meets .own)) (ans .heeds .heard) in
-      record { hears = heard-so request (record { own = ans .own; read = r; loud = loud }); first = first; count = count; items = s }
-  from-data bytes n ans h (miswritten code w v e k) = no-error request bytes code e h
-  from-data bytes n ans h (stores w v e k) = no-echo request bytes (omega (arith, shaped-length request (write-when .legal m request .0 v .0) .0)) w e h
+module _ (v : View) (good : T (passes v)) where
+  -- ---- the reply
 
-  from-reply : isRead (replyTo m request b) ≡ true → View m request b → Asks request
-  from-reply h (out w e) = absurd (false≢true (sym w ∙ meets .within))
-  from-reply h (short w l e) = absurd (omega (arith, l, meets .room))
-  from-reply h (unheard w l s e) = no-read (sym (ap (λ (x : Outcome). isRead (replyIn (x .handled .reply) (x .buffer))) e) ∙ h)
-  from-reply h (for-all bytes n w z g e) = no-read (sym (ap (λ (x : Outcome). isRead (replyIn (x .handled .reply) (x .buffer))) e) ∙ h)
-  from-reply h (for-one bytes n w g e) =
-      let said : replyTo m request b ≡ bytes =
-      ap (λ (x : Outcome). replyIn (x .handled .reply) (x .buffer)) e ∙ sent-front bytes b (omega (arith, gives-long m request bytes n g, meets .room)) in
-      from-data bytes n w (sym (ap isRead said) ∙ h) g
+  module _ (m : Meter) (request b : List ℕ) (meets : Meets m request b) (a : Asks v request) where
+    abbrev its : List Item
+    its = runItems (v .seen) (a .first) (a .count)
 
-pub with-data : WithData
-with-data = record { same = λ m request b meets. (λ a. ap isRead (replies m request b meets a) ∙ hears request (a .hears) .read, λ h. from-reply m request b meets h (view m request b)) }
+    abbrev reply : List ℕ
+    reply = dataReply request (itemsSent (shownOf m) its)
 
-pub round-trip : RoundTrip
-round-trip = record {
-  reads = λ m request b index typed meets a below. collects m request b meets a index below (typed-shows m typed (meets .within) (a .first + index) (known m request b meets a index below));
-  past = λ m request b index meets a over. ap (λ (reply : List ℕ). told (collectorOf request reply (m .given .ratios) index)) (replies m request b meets a) ∙ past m request b meets a index over;
-  error = error-given;
-  other = λ m request b reply r index meets ok h. exactly-when .rows request reply r index .row-7 .1 (ok, λ a. false≢true (sym h ∙ with-data .same m request b meets .0 a));
-}
+    h : Hears request
+    h = hears request (a .hears)
+
+    answers : Answers m request b
+    answers = record { heeds = record { within = meets .within; room = meets .room; heard = rw (meets .own) (h .loud) }; own = h .own }
+
+    gives : Gives v m request reply m
+    gives = shows (a .first) (a .count) (h .read) (a .items) refl refl
+
+    pub replies : replyTo v m request b ≡ reply
+    replies =
+        let o = obeys v good .reads m request b (a .first) (a .count) answers (h .read) (a .items) in
+        ap (λ (x : Outcome). replyIn (x .handled .reply) (x .buffer)) o ∙ sent-front reply b (omega (arith, gives-long v good m request reply m gives, meets .room))
+
+    -- ---- as the collector judges it
+
+    long : length reply ≡ 5 + 2 * wordNumber request
+    long =
+        let bs = addressOf request ∷ functionOf request ∷ 2 * wordNumber request ∷ itemsSent (shownOf m) its in
+        length-sealed bs ∙ omega (arith, length-items (shownOf m) its, legal-read v good (a .items) .sends)
+
+    ratios : ratiosOk (m .given .ratios) ≡ true
+    ratios = own-ratios m (meets .within)
+
+    -- the function of the reply is the request's
+    function : functionOf reply ≡ 0x03
+    function = eqb-true (functionOf request) 0x03 (h .read)
+
+    pub fits : Fits v request reply (m .given .ratios)
+    fits =
+        let other : isReadError reply ≡ false = rw function refl in
+        let same : isRead reply ≡ true = rw function refl in
+        record {
+          sound = record {
+            asked = record { ratios = ratios; asks = a };
+            long = simp (le-ltb (length reply) 5 (omega (arith, long)), le-ltb 256 (length reply) (omega (arith, long, legal-read v good (a .items) .most, passes-room v good)));
+            whole = gives-whole v good m request reply m gives;
+            own = simp (eq-eqb (addressOf request) (addressOf request) refl, same);
+          };
+          words = other;
+          fits = simp (eq-eqb (2 * wordNumber request) (2 * wordNumber request) refl, eq-eqb (length reply) (5 + 2 * wordNumber request) long);
+        }
+
+    -- ---- item by item
+
+    module _ (index : ℕ) (below : index < a .count) where
+      abbrev it : Item
+      it = itemAt v a index
+
+      inside : a .first + a .count ≤ length (v .seen)
+      inside = legal-read v good (a .items) .inside
+
+      known : a .first + index < length (v .seen)
+      known = omega (arith, inside, below)
+
+      fitting-words : Shows m (it .quantity) → shownOf m (it .quantity) < 65536 ^ it .words
+      fitting-words fit =
+          let room = shape it (directory-rules .shapes (v .seen) (passes-tested v good) (a .first + index) known) .roomy in
+          let narrow = ruled-narrow (v .seen) (passes-ruled v good) (a .first + index) known in
+          rw (sym (two-bytes (it .words) (narrow .few))) (lt-of-lt-of-le (in-room (v .seen) (passes-tested v good) (a .first + index) known (fit .fits)) (pow-le-pow-right (omega arith) room))
+
+      value-back : Shows m (it .quantity) → valueIn v a reply index ≡ shownOf m (it .quantity)
+      value-back fit =
+          let x = shownOf m (it .quantity) in
+          let before = addressOf request ∷ functionOf request ∷ 2 * wordNumber request ∷ itemsSent (shownOf m) (take index its) in
+          let after = itemsSent (shownOf m) (drop (suc index) its) in
+          let crc = onLine (crcOf (addressOf request ∷ functionOf request ∷ 2 * wordNumber request ∷ itemsSent (shownOf m) its)) in
+          let same = run-at (v .seen) (a .first) (a .count) index below in
+          let parts : itemsSent (shownOf m) its ≡ itemsSent (shownOf m) (take index its) ++ (sent (it .words) x ++ after) =
+          split (shownOf m) its index (omega (arith, below, run-length (v .seen) (a .first) (a .count) inside)) ∙ ap (λ (x : Item). itemsSent (shownOf m) (take index its) ++ (sent (x .words) (shownOf m (x .quantity)) ++ after)) same in
+          let whole : reply ≡ before ++ sent (it .words) x ++ (after ++ crc) =
+          ap (λ (l : List ℕ). (addressOf request ∷ functionOf request ∷ 2 * wordNumber request ∷ l) ++ crc) parts
+          ∙ append-assoc before (sent (it .words) x ++ after) crc
+          ∙ ap (λ (l : List ℕ). before ++ l) (append-assoc (sent (it .words) x) after crc)
+          ∙ sym (append-assoc before (sent (it .words) x) (after ++ crc)) in
+          let here : placeOf its index ≡ length before = omega (arith, length-items (shownOf m) (take index its)) in
+          ap (λ (at : ℕ). valueAt (it .words) reply at) here
+          ∙ ap (λ (l : List ℕ). valueAt (it .words) l (length before)) whole
+          ∙ read-back .between (it .words) x before (after ++ crc) (fitting-words fit)
+
+      reads : Shows m (it .quantity) → collectorIn v request reply (m .given .ratios) index ≡ Reading (meaningOf m (it .quantity))
+      unfolding fits
+      reads fit =
+          exactly-when v good .rows request reply (m .given .ratios) index .reading (meaningOf m (it .quantity)) .1
+          (record {
+            holds = record { fits = fits; below = below };
+            reading = ap (readingOf (meterT m) it) (value-back fit) ∙ item-read (v .seen) (passes-tested v good) m (meets .within) (a .first + index) known fit;
+          })
+
+      -- through the bytes of the reply
+      pub collects : Shows m (it .quantity) → collectorIn v request (replyTo v m request b) (m .given .ratios) index ≡ Reading (meaningOf m (it .quantity))
+      collects fit = ap (λ (x : List ℕ). collectorIn v request x (m .given .ratios) index) replies ∙ reads fit
+
+    pub past : (index : ℕ) → a .count ≤ index → Comes v request reply (m .given .ratios) index (refusedBy 12)
+    unfolding fits
+    past index over = exactly-when v good .rows request reply (m .given .ratios) index .row-12 .1 (record { fits = fits; past = over })
+
+  -- ---- an error reply to such a request
+
+  error-given : (request : List ℕ) (r : Ratios) (index code : ℕ) → Asked v request r → 1 ≤ code → code ≤ 3 → Comes v request (errorBytes request code) r index (errorBy code)
+  error-given request r index code asked some most =
+      exactly-when v good .rows request reply r index .error code .1
+      (record {
+        sound = record {
+          asked = asked;
+          long = refl;
+          whole = intact-is-sealed .passes (addressOf request ∷ (functionOf request + 0x80) ∷ code ∷ []);
+          own = simp (eq-eqb (addressOf request) (addressOf request) refl, error, other);
+        };
+        error = error;
+        long = refl;
+        says = refl;
+        some = some;
+        most = most;
+      })
+    where
+      reply : List ℕ
+      reply = errorBytes request code
+
+      three : functionOf request ≡ 0x03
+      three = eqb-true (functionOf request) 0x03 (hears request (asked .asks .hears) .read)
+
+      error : isReadError reply ≡ true
+      error = rw three refl
+
+      other : isRead reply ≡ false
+      other = rw three refl
+
+  -- ---- a reply of function 0x03 is due to such a request alone
+
+  module _ (m : Meter) (request b : List ℕ) (meets : Meets m request b) where
+    -- what is given is a data reply, or has another function
+    from-data : (bytes : List ℕ) (n : Meter) → Answers m request b → isRead bytes ≡ true → Gives v m request bytes n → Asks v request
+    from-data bytes n ans h (other r w e k) = no-error request bytes Function e h
+    from-data bytes n ans h (misread code r s e k) = no-error request bytes code e h
+    from-data bytes n ans h (shows first count r s e k) =
+        let loud : silence (addressOf request) request ≡ false = rw (sym (meets .own)) (ans .heeds .heard) in
+        record { hears = heard-so request (record { own = ans .own; read = r; loud = loud }); first = first; count = count; items = s }
+    from-data bytes n ans h (miswritten code w j e k) = no-error request bytes code e h
+    from-data bytes n ans h (stores w j e k) = no-echo request bytes (omega (arith, shaped-length request (write-when .legal m request .0 j .0) .0)) w e h
+
+    from-reply : isRead (replyTo v m request b) ≡ true → Case v m request b → Asks v request
+    from-reply h (out w e) = absurd (false≢true (sym w ∙ meets .within))
+    from-reply h (short w l e) = absurd (omega (arith, l, meets .room))
+    from-reply h (unheard w l s e) = no-read (sym (ap (λ (x : Outcome). isRead (replyIn (x .handled .reply) (x .buffer))) e) ∙ h)
+    from-reply h (for-all bytes n w z g e) = no-read (sym (ap (λ (x : Outcome). isRead (replyIn (x .handled .reply) (x .buffer))) e) ∙ h)
+    from-reply h (for-one bytes n w g e) =
+        let said : replyTo v m request b ≡ bytes =
+        ap (λ (x : Outcome). replyIn (x .handled .reply) (x .buffer)) e ∙ sent-front bytes b (omega (arith, gives-long v good m request bytes n g, meets .room)) in
+        from-data bytes n w (sym (ap isRead said) ∙ h) g
+
+  pub with-data : WithData v
+  with-data = record { same = λ m request b meets. (λ a. ap isRead (replies m request b meets a) ∙ hears request (a .hears) .read, λ h. from-reply m request b meets h (case v m request b)) }
+
+  pub round-trip : RoundTrip v
+  round-trip = record {
+    reads = λ m request b index typed meets a below. collects m request b meets a index below (typed-shows (v .seen) (passes-tested v good) (a .first + index) (known m request b meets a index below) m typed (meets .within));
+    past = λ m request b index meets a over. ap (λ (reply : List ℕ). told (collectorIn v request reply (m .given .ratios) index)) (replies m request b meets a) ∙ past m request b meets a index over;
+    error = error-given;
+    other = λ m request b reply r index meets ok h. exactly-when v good .rows request reply r index .row-7 .1 (ok, λ a. false≢true (sym h ∙ with-data .same m request b meets .0 a));
+  }

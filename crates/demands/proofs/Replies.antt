@@ -6,6 +6,7 @@ use mathlib.Core.List.{List, [], _∷_}
 use Prim.Native.Nat.{ℕ, _+_, _*_, _≤_}
 use native.Mathlib.Nat.{min-le-left}
 use native.Mathlib.Omega.{arith}
+use lib.Dec.{T}
 use lib.ListN.{length, getD, take, drop, length-take, List·getD-append}
 use lib.Seq.{sets, take-at, drop-at, getD-take, length-take-le}
 use borrow.Author.Tests.{eq-eqb, ne-eqb, le-ltb}
@@ -16,80 +17,35 @@ use Rattle.refusal.proofs.Distinct.{one-reason-each}
 use Rattle.crc.specs.Crc.{crcOf, onLine, sealed, intact}
 use Rattle.crc.proofs.Laws.{length-sealed, intact-is-sealed}
 use Rattle.directory.specs.declared.Span.the-variants.{Error}
-use Rattle.directory.specs.Table.{directory}
 use Rattle.directory.specs.Run.{runItems}
+use Rattle.directory.specs.Views.{View, passes}
+use Rattle.directory.proofs.Views.{passes-room}
 use Rattle.modbus.specs.Frame.{addressOf, functionOf, wordNumber, isRead, isWrite}
 use Rattle.modbus.specs.Replies.{errorReply, echoReply}
 use Rattle.modbus.proofs.Frames.{shaped-length}
 use Rattle.modbus.proofs.Judged.{legal-read}
 use Rattle.modbus.proofs.Stores.{sets-front}
 use Rattle.meter.specs.declared.Meter.{Meter}
+use Rattle.registers.specs.Shown.{shownOf}
 use Rattle.board.specs.declared.Reply.the-variants.{Sent}
 use Rattle.board.specs.Reads.{itemsSent, dataReply, readBytes}
-use Rattle.board.specs.Board.{Outcome, silentOf, sentOf, replyOf, obeyedOf, boardOf}
-use Rattle.board.specs.Answers.{Heeds, Answers, ReadErrs, WriteErrs}
+use Rattle.board.specs.Board.{Outcome, silentOf, sentOf, replyOf, obeyedIn, boardIn}
+use Rattle.demands.specs.Frames.{Heeds, Answers, ReadErrs, WriteErrs}
 use Rattle.board.proofs.Sent.{length-items}
 use Rattle.board.proofs.Cases.{board-obeys, obeys-other, obeys-read, obeys-write}
 use Rattle.store.specs.declared.Verdict.the-variants.{Wrong}
 use Rattle.store.proofs.Verdicts.{write-when}
-use Rattle.board.proofs.Views.{Gives, other, misread, shows, miswritten, stores}
+use Rattle.demands.proofs.Gives.{Gives}
+use Rattle.demands.proofs.Gives.Gives.{other, misread, shows, miswritten, stores}
 
--- ---- what is given is sent
+-- ---- bytes with their CRC behind them
 
-module _ (m : Meter) (frame b : List ℕ) where
-  obeyed : Heeds m frame b → boardOf m frame b ≡ obeyedOf m frame b
-  obeyed h = sym (board-obeys m frame b (h .within) (le-ltb _ _ (h .room)) (h .heard))
-
-  pub gives-reply : Heeds m frame b → (bytes : List ℕ) (n : Meter) → Gives m frame bytes n → boardOf m frame b ≡ replyOf frame bytes n b
-  gives-reply h bytes n (other r w e k) = rw (e, k) (obeyed h ∙ sym (obeys-other m frame b r w))
-  gives-reply h bytes n (misread code r s e k) = rw (e, k) (obeyed h ∙ sym (obeys-read m frame b r) ∙ ap (λ (x : List ℕ). replyOf frame x m b) (ap (readBytes m frame) s))
-  gives-reply h bytes n (shows first count r s e k) = rw (e, k) (obeyed h ∙ sym (obeys-read m frame b r) ∙ ap (λ (x : List ℕ). replyOf frame x m b) (ap (readBytes m frame) s))
-  gives-reply h bytes n (miswritten code w v e k) =
-      let o = obeyed h ∙ sym (obeys-write m frame b w) in
-      rw (e, k) (o ∙ rw (write-when .kept m frame code v, v) refl)
-  gives-reply h bytes n (stores w v e k) =
-      let o = obeyed h ∙ sym (obeys-write m frame b w) in
-      rw (e, k) (o ∙ rw (write-when .stored m frame v, v) refl)
-
-  pub gives-sent : Answers m frame b → (bytes : List ℕ) (n : Meter) → Gives m frame bytes n → boardOf m frame b ≡ sentOf bytes n b
-  gives-sent a bytes n g = gives-reply (a .heeds) bytes n g ∙ rw (ne-eqb (addressOf frame) 0 (a .own)) refl
-
-  pub gives-quiet : Heeds m frame b → addressOf frame ≡ 0 → (bytes : List ℕ) (n : Meter) → Gives m frame bytes n → boardOf m frame b ≡ silentOf n b
-  gives-quiet h z bytes n g = gives-reply h bytes n g ∙ rw (eq-eqb (addressOf frame) 0 z) refl
-
--- ---- its length and its CRC
-
-pub gives-long : (m : Meter) (frame bytes : List ℕ) (n : Meter) → Gives m frame bytes n → length bytes ≤ 256
-gives-long m frame bytes n (other r w e k) = rw e (omega arith)
-gives-long m frame bytes n (misread code r s e k) = rw e (omega arith)
-gives-long m frame bytes n (shows first count r s e k) =
-    let a = legal-read s in
-    let its = runItems directory first count in
-    let bs = addressOf frame ∷ functionOf frame ∷ 2 * wordNumber frame ∷ itemsSent m its in
-    rw e (omega (arith, length-sealed bs, length-items m its, a .sends, a .most))
-gives-long m frame bytes n (miswritten code w v e k) = rw e (omega arith)
-gives-long m frame bytes n (stores w v e k) =
-    let six : length (take 6 frame) ≤ 6 = rw (length-take 6 frame) (min-le-left 6 (length frame)) in
-    rw e (omega (arith, length-sealed (take 6 frame)))
-
--- bytes with their CRC behind them
 record Sealed (bytes : List ℕ) : Type 0 where
   before : List ℕ
   is : bytes ≡ sealed before
 
 error-sealed : (frame : List ℕ) (code : ErrorCode) (bytes : List ℕ) → bytes ≡ errorReply frame code → Sealed bytes
 error-sealed frame code bytes e = record { before = addressOf frame ∷ (functionOf frame + 0x80) ∷ errorNumber code ∷ []; is = e }
-
-gives-sealed : (m : Meter) (frame bytes : List ℕ) (n : Meter) → Gives m frame bytes n → Sealed bytes
-gives-sealed m frame bytes n (other r w e k) = error-sealed frame Function bytes e
-gives-sealed m frame bytes n (misread code r s e k) = error-sealed frame code bytes e
-gives-sealed m frame bytes n (shows first count r s e k) =
-    record { before = addressOf frame ∷ functionOf frame ∷ 2 * wordNumber frame ∷ itemsSent m (runItems directory first count); is = e }
-gives-sealed m frame bytes n (miswritten code w v e k) = error-sealed frame code bytes e
-gives-sealed m frame bytes n (stores w v e k) = record { before = take 6 frame; is = e }
-
-pub gives-whole : (m : Meter) (frame bytes : List ℕ) (n : Meter) → Gives m frame bytes n → intact bytes ≡ true
-gives-whole m frame bytes n g = let z = gives-sealed m frame bytes n g in ap intact (z .is) ∙ intact-is-sealed .passes (z .before)
 
 -- ---- in the buffer
 
@@ -130,17 +86,68 @@ not-echo frame code h e =
     let f : functionOf frame ≡ functionOf frame + 0x80 = sym (echo-function frame h) ∙ ap functionOf e in
     let y : ⊥ = omega arith in absurd y
 
--- what led to an error reply
-pub data Faults (code : ErrorCode) (m : Meter) (frame : List ℕ) : Type 0 where
-  unknown : isRead frame ≡ false → isWrite frame ≡ false → Function ≡ code → Faults code m frame
-  bad-read : ReadErrs code frame → Faults code m frame
-  bad-write : WriteErrs code m frame → Faults code m frame
+module _ (v : View) (good : T (passes v)) where
+  -- ---- what is given is sent
 
-pub faults : (m : Meter) (frame bytes : List ℕ) (n : Meter) (code : ErrorCode) → Gives m frame bytes n → bytes ≡ errorReply frame code → Faults code m frame
-faults m frame bytes n code (other r w e k) h = unknown r w (one-code frame Function code (sym e ∙ h))
-faults m frame bytes n code (misread c r s e k) h = bad-read (r, s ∙ ap Error (one-code frame c code (sym e ∙ h)))
-faults m frame bytes n code (shows first count r s e k) h =
-    not-data frame (itemsSent m (runItems directory first count)) code (sym e ∙ h)
-faults m frame bytes n code (miswritten c w v e k) h = bad-write (w, v ∙ ap Wrong (one-code frame c code (sym e ∙ h)))
-faults m frame bytes n code (stores w v e k) h =
-    not-echo frame code (omega (arith, shaped-length frame (write-when .legal m frame .0 v .0) .0)) (sym e ∙ h)
+  module _ (m : Meter) (frame b : List ℕ) where
+    obeyed : Heeds m frame b → boardIn v m frame b ≡ obeyedIn v m frame b
+    obeyed h = sym (board-obeys v m frame b (h .within) (le-ltb _ _ (h .room)) (h .heard))
+
+    pub gives-reply : Heeds m frame b → (bytes : List ℕ) (n : Meter) → Gives v m frame bytes n → boardIn v m frame b ≡ replyOf frame bytes n b
+    gives-reply h bytes n (other r w e k) = rw (e, k) (obeyed h ∙ sym (obeys-other v m frame b r w))
+    gives-reply h bytes n (misread code r s e k) = rw (e, k) (obeyed h ∙ sym (obeys-read v m frame b r) ∙ ap (λ (x : List ℕ). replyOf frame x m b) (ap (readBytes v (shownOf m) frame) s))
+    gives-reply h bytes n (shows first count r s e k) = rw (e, k) (obeyed h ∙ sym (obeys-read v m frame b r) ∙ ap (λ (x : List ℕ). replyOf frame x m b) (ap (readBytes v (shownOf m) frame) s))
+    gives-reply h bytes n (miswritten code w j e k) =
+        let o = obeyed h ∙ sym (obeys-write v m frame b w) in
+        rw (e, k) (o ∙ rw (write-when .kept m frame code j, j) refl)
+    gives-reply h bytes n (stores w j e k) =
+        let o = obeyed h ∙ sym (obeys-write v m frame b w) in
+        rw (e, k) (o ∙ rw (write-when .stored m frame j, j) refl)
+
+    pub gives-sent : Answers m frame b → (bytes : List ℕ) (n : Meter) → Gives v m frame bytes n → boardIn v m frame b ≡ sentOf bytes n b
+    gives-sent a bytes n g = gives-reply (a .heeds) bytes n g ∙ rw (ne-eqb (addressOf frame) 0 (a .own)) refl
+
+    pub gives-quiet : Heeds m frame b → addressOf frame ≡ 0 → (bytes : List ℕ) (n : Meter) → Gives v m frame bytes n → boardIn v m frame b ≡ silentOf n b
+    gives-quiet h z bytes n g = gives-reply h bytes n g ∙ rw (eq-eqb (addressOf frame) 0 z) refl
+
+  -- ---- its length and its CRC
+
+  pub gives-long : (m : Meter) (frame bytes : List ℕ) (n : Meter) → Gives v m frame bytes n → length bytes ≤ 256
+  gives-long m frame bytes n (other r w e k) = rw e (omega arith)
+  gives-long m frame bytes n (misread code r s e k) = rw e (omega arith)
+  gives-long m frame bytes n (shows first count r s e k) =
+      let a = legal-read v good s in
+      let its = runItems (v .seen) first count in
+      let bs = addressOf frame ∷ functionOf frame ∷ 2 * wordNumber frame ∷ itemsSent (shownOf m) its in
+      rw e (omega (arith, length-sealed bs, length-items (shownOf m) its, a .sends, a .most, passes-room v good))
+  gives-long m frame bytes n (miswritten code w j e k) = rw e (omega arith)
+  gives-long m frame bytes n (stores w j e k) =
+      let six : length (take 6 frame) ≤ 6 = rw (length-take 6 frame) (min-le-left 6 (length frame)) in
+      rw e (omega (arith, length-sealed (take 6 frame)))
+
+  gives-sealed : (m : Meter) (frame bytes : List ℕ) (n : Meter) → Gives v m frame bytes n → Sealed bytes
+  gives-sealed m frame bytes n (other r w e k) = error-sealed frame Function bytes e
+  gives-sealed m frame bytes n (misread code r s e k) = error-sealed frame code bytes e
+  gives-sealed m frame bytes n (shows first count r s e k) =
+      record { before = addressOf frame ∷ functionOf frame ∷ 2 * wordNumber frame ∷ itemsSent (shownOf m) (runItems (v .seen) first count); is = e }
+  gives-sealed m frame bytes n (miswritten code w j e k) = error-sealed frame code bytes e
+  gives-sealed m frame bytes n (stores w j e k) = record { before = take 6 frame; is = e }
+
+  pub gives-whole : (m : Meter) (frame bytes : List ℕ) (n : Meter) → Gives v m frame bytes n → intact bytes ≡ true
+  gives-whole m frame bytes n g = let z = gives-sealed m frame bytes n g in ap intact (z .is) ∙ intact-is-sealed .passes (z .before)
+
+  -- ---- what led to an error reply
+
+  pub data Faults (code : ErrorCode) (m : Meter) (frame : List ℕ) : Type 0 where
+    unknown : isRead frame ≡ false → isWrite frame ≡ false → Function ≡ code → Faults code m frame
+    bad-read : ReadErrs v code frame → Faults code m frame
+    bad-write : WriteErrs code m frame → Faults code m frame
+
+  pub faults : (m : Meter) (frame bytes : List ℕ) (n : Meter) (code : ErrorCode) → Gives v m frame bytes n → bytes ≡ errorReply frame code → Faults code m frame
+  faults m frame bytes n code (other r w e k) h = unknown r w (one-code frame Function code (sym e ∙ h))
+  faults m frame bytes n code (misread c r s e k) h = bad-read (r, s ∙ ap Error (one-code frame c code (sym e ∙ h)))
+  faults m frame bytes n code (shows first count r s e k) h =
+      not-data frame (itemsSent (shownOf m) (runItems (v .seen) first count)) code (sym e ∙ h)
+  faults m frame bytes n code (miswritten c w j e k) h = bad-write (w, j ∙ ap Wrong (one-code frame c code (sym e ∙ h)))
+  faults m frame bytes n code (stores w j e k) h =
+      not-echo frame code (omega (arith, shaped-length frame (write-when .legal m frame .0 j .0) .0)) (sym e ∙ h)

@@ -1,12 +1,12 @@
--- What a meter shows of an item is read as what it means: an argument for each kind, and the directory's items come under them by one
--- computed test.
+-- What a meter shows of an item is read as what it means: an argument for each kind, and the items of a directory come under them by its
+-- tests.
 use mathlib.Core.Path.{_≡_, refl, sym, ap, _∙_}
 use mathlib.Core.Bool.{Bool, true, false, _&&_, cond}
 use mathlib.Core.List.{List, [], _∷_, map}
 use Prim.Native.Nat.{ℕ, zero, suc, _*_, _/_, _%_, _^_, _≤_, _<_, zero-le}
 use native.Mathlib.Nat.{lt-of-le-of-lt}
 use native.Mathlib.Omega.{arith}
-use lib.Dec.{leb, ltb, eqb}
+use lib.Dec.{T, leb, ltb, eqb}
 use lib.ListN.{length, getD, List·getD-eq-default}
 use borrow.Author.Tests.{eqb-true, le-leb, lt-leb, lt-ltb}
 use lib.IntN.{ℤ, pos, negsuc, natAbs}
@@ -18,9 +18,8 @@ use Rattle.words.proofs.Signs.{signed-back}
 use Rattle.ratio.proofs.Powers.{powers-fit}
 use Rattle.counts.proofs.Joins.{counts-fit}
 use Rattle.directory.specs.declared.Item.{Item}
-use Rattle.directory.specs.Item.{none, inBytes}
-use Rattle.directory.specs.Table.{directory}
-use Rattle.directory.specs.Order.{roomOf}
+use Rattle.directory.specs.Item.{none, inBytes, isB}
+use Rattle.directory.specs.Order.{roomOf, tested}
 use Rattle.meter.specs.declared.Meter.{Meter}
 use Rattle.meter.specs.Samples.{factorOf}
 use Rattle.meter.specs.Meters.{meterT, meterOk, energyAt}
@@ -32,7 +31,7 @@ use Rattle.reading.specs.declared.Quantity.{Quantity}
 use Rattle.reading.specs.declared.Quantity.the-variants as read
 use Rattle.reading.specs.declared.Answer.{Answer}
 use Rattle.reading.specs.declared.Answer.the-variants.{Reading}
-use Rattle.reading.specs.Readings.{impossible, when, times, signedIn, counted, longs, shorts, isB, readingOf}
+use Rattle.reading.specs.Readings.{impossible, when, times, signedIn, counted, longs, shorts, readingOf}
 use Rattle.reading.proofs.ByKind.{long-kind, word-kind, Each, each-at}
 use Rattle.reading.proofs.Wide.{wordsFor, wide-at}
 use Rattle.demands.specs.Meaning.{cut, powerMeanings, signedMeanings, countMeanings, lowMeanings, highMeanings, wrapMeanings, factorMeanings, signMeanings, meanings, meaningOf}
@@ -174,11 +173,11 @@ module _ (m : Meter) (h : meterOk m ≡ true) where
   kinds-read : Each (ReadKind m) 0 17
   kinds-read = (few m 0 0 tt, (voltages-read, (currents-read, (powers-read, (signed-read, (counts-read, (lows-read, (highs-read, (wraps-read, (factors-read, (signs-read, (sector-read, (frequency-read, (kta-read, (ktv-read, (sequence-read, (plains-read, tt)))))))))))))))))
 
--- ---- and so for the items of the directory
+-- ---- and so for the items of a directory that passes the tests
 
-module _ (m : Meter) (ok : meterOk m ≡ true) (i : ℕ) (l : i < length directory) where
+module _ (dir : List Item) (tests : T (tested dir)) (m : Meter) (ok : meterOk m ≡ true) (i : ℕ) (l : i < length dir) where
   abbrev it : Item
-  it = getD directory i none
+  it = getD dir i none
 
   pub item-read : Shows m (it .quantity) → readingOf (meterT m) it (shownOf m (it .quantity)) ≡ Reading (meaningOf m (it .quantity))
   unfolding shownOf meaningOf
@@ -187,8 +186,8 @@ module _ (m : Meter) (ok : meterOk m ≡ true) (i : ℕ) (l : i < length directo
       let v = shownOf m q in
       let inside : 17 ≤ q / 64 → ⊥ = λ beyond. omega (arith, shows .case, ap length (List·getD-eq-default (valuesOf m) [] beyond)) in
       rw (
-        wide-at i l .words,
+        wide-at dir tests i l .words,
         long-kind (meterT m) q v (q / 64) (omega arith),
-        word-kind q (isB it) v (q / 64) (upper-clear it v (in-room i l (shows .fits))) (omega arith),
+        word-kind q (isB it) v (q / 64) (upper-clear it v (in-room dir tests i l (shows .fits))) (omega arith),
       )
       (each-at (ReadKind m) 0 17 (q / 64) (kinds-read m ok) zero-le (omega arith) (q % 64) (shows .case))

@@ -6,6 +6,7 @@ use mathlib.Core.List.{List, [], _∷_}
 use Prim.Native.Nat.{ℕ, _+_, _*_, _/_, _≤_, _<_}
 use native.Mathlib.Nat.{le-trans, div-eq-of-lt-le}
 use native.Mathlib.Omega.{arith}
+use lib.Dec.{T}
 use borrow.Author.Tests.{le-leb}
 use Rattle.signed.specs.Signs.{aboveOf, belowOf}
 use Rattle.signed.proofs.Sums.{above-le, below-le}
@@ -17,6 +18,7 @@ use Rattle.ratio.specs.Steps.{stepOf}
 use Rattle.counts.specs.Energies.{topWh, topCount, registerOf, wrapOf, energyOf}
 use Rattle.setup.specs.Ranges.{wordOk, groupOk}
 use Rattle.directory.specs.Quantity.{energyCount, wrap, posEa}
+use Rattle.directory.specs.Views.{View, passes}
 use Rattle.reading.specs.declared.Answer.{Answer}
 use Rattle.meter.specs.declared.Answer.the-variants.{Accepted}
 use Rattle.meter.specs.declared.samples.Powers.{Powers}
@@ -34,45 +36,7 @@ use Rattle.demands.specs.ShutOut.{Keeps, joinedWh, ours, bareRatios, ten
 use Rattle.demands.proofs.NotEmpty.{not-empty}
 use Rattle.demands.proofs.Demand3.{demand-3}
 
--- ---- our own
-
--- the history of a new meter with nothing between
-module _ (address : ℕ) (r : Ratios) (made : newOf address r .answer ≡ Accepted) (e : ℕ) (four : e < 4) (register : Poll address (energyCount e)) (wrapped : Poll address (wrap e)) where
-  abbrev told-by : List Event → History
-  told-by xs = record { address = address; ratios = r; made = made; events = xs; between = []; idle = not-empty .idle (afterAll (newOf address r .meter) xs) [] [] }
-
-  -- what is read and joined is what demand 3 speaks of
-  joined-so : (xs : List Event) (a b : Answer) (x : RegisterRead (told-by xs) e a b) → joinedWh r a b ≡ x .whole .0
-  joined-so xs a b x = rw (x .reads, x .wraps, x .joins) refl
-
-  kept : Keeps address r e (ours address r e register wrapped)
-  unfolding afterAll
-  kept xs =
-      let x = demand-3 .register-first (told-by xs) e four register wrapped in
-      rw (joined-so xs _ _ x) (record { above = x .bounds .above; below = omega (arith, x .bounds .below) })
-
--- ---- others
-
-abbrev bare : Meter
-bare = newOf 1 bareRatios .meter
-
-abbrev one : List Event
-one = Event.sample tenWh ∷ []
-
-abbrev two : List Event
-two = Event.sample tenWh ∷ Event.sample tenWh ∷ []
-
-none-exact : exactOf posEa bare [] ≡ 0
-unfolding exactOf
-none-exact = refl
-
-one-exact : exactOf posEa bare one ≡ 3600000
-unfolding exactOf afterOf newOf meterOk sampleOk inForce powerLimit groupOk wordOk
-one-exact = refl
-
-two-exact : exactOf posEa bare two ≡ 7200000
-unfolding exactOf afterOf newOf meterOk sampleOk inForce powerLimit groupOk wordOk
-two-exact = refl
+-- ---- what others cannot do
 
 -- the step of such a meter
 ten : stepOf (tOf bareRatios) ≡ 10
@@ -82,16 +46,6 @@ ten = refl
 -- no figure keeps the bounds both before and after a whole step
 same-figure : {a b s x y : ℕ} → Bounds a s x → Bounds b s y → b ≡ a + 3600000 → s ≡ 10 → x ≡ y → ⊥
 same-figure p q f ten e = omega (arith, p .above, q .below)
-
-ignores-samples : (figure : List Event → ℕ) → ((s : Sample) (xs : List Event) → figure (Event.sample s ∷ xs) ≡ figure xs) → KeepsBare figure → ⊥
-ignores-samples figure same keeps = same-figure (keeps []) (keeps one) (omega (arith, none-exact, one-exact)) (omega (arith, ten)) (sym (same tenWh []))
-
--- what is the same each time ignores samples
-same-each-time : (figure : List Event → ℕ) → ((xs : List Event) → figure xs ≡ figure []) → KeepsBare figure → ⊥
-same-each-time figure same = ignores-samples figure (λ s xs. same (Event.sample s ∷ xs) ∙ sym (same xs))
-
-first-only : (figure : List Event → ℕ) → ((s t : Sample) (xs : List Event) → figure (Event.sample s ∷ Event.sample t ∷ xs) ≡ figure (Event.sample s ∷ xs)) → KeepsBare figure → ⊥
-first-only figure same keeps = same-figure (keeps one) (keeps two) (omega (arith, one-exact, two-exact)) (omega (arith, ten)) (sym (same tenWh tenWh []))
 
 made-up : (t exact count wrap : ℕ) → count ≤ topCount → Bounds exact (stepOf t) (energyOf t (wrap * 100000000 + count) .0) → (count ≡ registerOf t (record { 0 = exact / 360000 }) .0) × (wrap ≡ wrapOf t (record { 0 = exact / 360000 }))
 made-up t exact count wrap top bounds =
@@ -120,5 +74,56 @@ takes address r s made h =
     sample-answers .accepted (newOf address r .meter) s .1
     (made-within address r made, ap (λ (m : Meter). sampleOk (meterT m) s) blank ∙ h, ap (λ (m : Meter). meterWithinTop (nextOf m s)) blank ∙ top)
 
-pub shut-out : ShutOut
-shut-out = record { kept = kept; same-each-time = same-each-time; ignores-samples = ignores-samples; first-only = first-only; made-up = made-up; takes = takes }
+module _ (v : View) (good : T (passes v)) where
+  -- ---- our own
+
+  -- the history of a new meter with nothing between
+  module _ (address : ℕ) (r : Ratios) (made : newOf address r .answer ≡ Accepted) (e : ℕ) (four : e < 4) (register : Poll v address (energyCount e)) (wrapped : Poll v address (wrap e)) where
+    abbrev told-by : List Event → History v
+    told-by xs = record { address = address; ratios = r; made = made; events = xs; between = []; idle = not-empty v good .idle (afterAll v (newOf address r .meter) xs) [] [] }
+
+    -- what is read and joined is what demand 3 speaks of
+    joined-so : (xs : List Event) (a b : Answer) (x : RegisterRead v (told-by xs) e a b) → joinedWh r a b ≡ x .whole .0
+    joined-so xs a b x = rw (x .reads, x .wraps, x .joins) refl
+
+    kept : Keeps v address r e (ours v address r e register wrapped)
+    unfolding afterAll
+    kept xs =
+        let x = demand-3 v good .register-first (told-by xs) e four register wrapped in
+        rw (joined-so xs _ _ x) (record { above = x .bounds .above; below = omega (arith, x .bounds .below) })
+
+  -- ---- others, whatever they are
+
+  abbrev bare : Meter
+  bare = newOf 1 bareRatios .meter
+
+  abbrev one : List Event
+  one = Event.sample tenWh ∷ []
+
+  abbrev two : List Event
+  two = Event.sample tenWh ∷ Event.sample tenWh ∷ []
+
+  none-exact : exactOf v posEa bare [] ≡ 0
+  unfolding exactOf
+  none-exact = refl
+
+  one-exact : exactOf v posEa bare one ≡ 3600000
+  unfolding exactOf afterOf newOf meterOk sampleOk inForce powerLimit groupOk wordOk
+  one-exact = refl
+
+  two-exact : exactOf v posEa bare two ≡ 7200000
+  unfolding exactOf afterOf newOf meterOk sampleOk inForce powerLimit groupOk wordOk
+  two-exact = refl
+
+  ignores-samples : (figure : List Event → ℕ) → ((s : Sample) (xs : List Event) → figure (Event.sample s ∷ xs) ≡ figure xs) → KeepsBare v figure → ⊥
+  ignores-samples figure same keeps = same-figure (keeps []) (keeps one) (omega (arith, none-exact, one-exact)) (omega (arith, ten)) (sym (same tenWh []))
+
+  -- what is the same each time ignores samples
+  same-each-time : (figure : List Event → ℕ) → ((xs : List Event) → figure xs ≡ figure []) → KeepsBare v figure → ⊥
+  same-each-time figure same = ignores-samples figure (λ s xs. same (Event.sample s ∷ xs) ∙ sym (same xs))
+
+  first-only : (figure : List Event → ℕ) → ((s t : Sample) (xs : List Event) → figure (Event.sample s ∷ Event.sample t ∷ xs) ≡ figure (Event.sample s ∷ xs)) → KeepsBare v figure → ⊥
+  first-only figure same keeps = same-figure (keeps one) (keeps two) (omega (arith, one-exact, two-exact)) (omega (arith, ten)) (sym (same tenWh tenWh []))
+
+  pub shut-out : ShutOut v
+  shut-out = record { kept = kept; same-each-time = same-each-time; ignores-samples = ignores-samples; first-only = first-only; made-up = made-up; takes = takes }

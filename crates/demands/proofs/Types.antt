@@ -5,10 +5,11 @@ use mathlib.Core.Bool.{Bool, true, false, cond, and-eq-true-iff}
 use mathlib.Core.List.{List, [], _∷_}
 use Prim.Native.Nat.{ℕ, zero, suc, _+_, _^_, _<_}
 use native.Mathlib.Omega.{arith}
-use lib.Dec.{eqb}
+use lib.Dec.{T, eqb}
 use lib.ListN.{getD, replicate}
 use borrow.Author.Tests.{eqb-true}
 use Rattle.ratio.specs.declared.Ratios.{Ratios}
+use Rattle.directory.specs.Views.{View, passes}
 use Rattle.modbus.specs.Frame.{wordNumber, wordsAt, valuesOf}
 use Rattle.modbus.proofs.Rows.{length-words}
 use Rattle.meter.specs.declared.samples.Sample.{Sample}
@@ -22,8 +23,8 @@ use Rattle.meter.proofs.Answers.{new-blank}
 use Rattle.store.specs.Writes.{toStandard, groupWords, replacedIn, storedOf}
 use Rattle.store.proofs.Verdicts.{write-when}
 use Rattle.registers.specs.Cases.{SampleTyped, WordsTyped, SetupTyped, Typed}
-use Rattle.board.specs.Answers.{Heeds, Stores}
-use Rattle.board.proofs.Answers.{untouched}
+use Rattle.demands.specs.Frames.{Heeds, Stores}
+use Rattle.demands.proofs.Frames.{untouched}
 use Rattle.demands.specs.Histories.{Event, afterEvent, afterAll, EventTyped, AllTyped, TypesKept}
 use Rattle.demands.specs.Histories.AllTyped.{more}
 
@@ -90,16 +91,17 @@ module _ (frame : List ℕ) (bytes : (i : ℕ) → getD frame i 0 < 256) where
   kept-typed m b n typed (inl e) = subst (λ (x : Meter). Typed x) (sym e) typed
   kept-typed m b n typed (inr s) = subst (λ (x : Meter). Typed x) (sym (s .2)) (stored-typed m typed (s .1))
 
--- ---- and so any
+module _ (v : View) (good : T (passes v)) where
+  -- ---- and so any
 
-event : (m : Meter) (x : Event) → Typed m → EventTyped x → Typed (afterEvent m x)
-event m (Event.sample s) typed fits = after-typed m s typed fits
-event m (Event.frame bytes b) typed fits = kept-typed bytes fits m b _ typed (untouched .altered m bytes b)
+  event : (m : Meter) (x : Event) → Typed m → EventTyped x → Typed (afterEvent v m x)
+  event m (Event.sample s) typed fits = after-typed m s typed fits
+  event m (Event.frame bytes b) typed fits = kept-typed bytes fits m b _ typed (untouched v good .altered m bytes b)
 
-events : (m : Meter) (xs : List Event) → Typed m → AllTyped xs → Typed (afterAll m xs)
-unfolding afterAll
-events m [] typed all = typed
-events m (x ∷ xs) typed (more fits all) = events (afterEvent m x) xs (event m x typed fits) all
+  events : (m : Meter) (xs : List Event) → Typed m → AllTyped xs → Typed (afterAll v m xs)
+  unfolding afterAll
+  events m [] typed all = typed
+  events m (x ∷ xs) typed (more fits all) = events (afterEvent v m x) xs (event m x typed fits) all
 
-pub types-kept : TypesKept
-types-kept = record { new = new; event = event; events = events }
+  pub types-kept : TypesKept v
+  types-kept = record { new = new; event = event; events = events }

@@ -13,11 +13,12 @@ use Rattle.ratio.specs.Ratios.{tOf}
 use Rattle.ratio.specs.Steps.{stepOf}
 use Rattle.counts.specs.Energies.{energyOf, joinOf, joinHalvesOf}
 use Rattle.directory.specs.Quantity.{energyCount, wrap, low, high}
+use Rattle.directory.specs.Views.{View}
 use Rattle.modbus.specs.Frame.{addressOf}
 use Rattle.reading.specs.declared.Quantity.the-variants as read
 use Rattle.reading.specs.declared.Answer.{Answer}
 use Rattle.reading.specs.declared.Answer.the-variants.{Reading}
-use Rattle.collector.specs.Collector.{collectorOf}
+use Rattle.collector.specs.Collector.{collectorIn}
 use Rattle.collector.specs.Answers.{Asks, itemAt}
 use Rattle.meter.specs.declared.Answer.the-variants.{Accepted}
 use Rattle.meter.specs.declared.Meter.{Meter}
@@ -25,80 +26,81 @@ use Rattle.meter.specs.Meters.{newOf}
 use Rattle.demands.specs.Histories.{Event, afterAll, exactOf, anyTaken}
 use Rattle.demands.specs.RoundTrip.{replyTo}
 
--- a history with two moments: a new meter and any events, then events with no accepted sample between (the first read is one of these)
-pub record History : Type 0 where
-  pub address : ℕ
-  pub ratios : Ratios
-  pub made : newOf address ratios .answer ≡ Accepted
-  pub events : List Event
-  pub between : List Event
-  pub idle : anyTaken (afterAll (newOf address ratios .meter) events) between ≡ false
-
--- the meter when the first of two reads comes
-abbrev pub sooner : History → Meter
-sooner h = afterAll (newOf (h .address) (h .ratios) .meter) (h .events)
-
--- and when the second comes
-abbrev pub later : History → Meter
-later h = afterAll (sooner h) (h .between)
-
--- the exact energy of the samples accepted so far, at the first read and, as `still` says, at the second
-abbrev pub exactAt : ℕ → History → ℕ
-exactAt e h = exactOf e (newOf (h .address) (h .ratios) .meter) (h .events)
-
--- a read of a quantity: a request for a meter that is answered with data, room for the reply, and the index of an item that shows it
-pub record Poll (address quantity : ℕ) : Type 0 where
-  pub request : List ℕ
-  pub buffer : List ℕ
-  pub index : ℕ
-  pub asks : Asks request
-  pub own : addressOf request ≡ address
-  pub room : 256 ≤ length buffer
-  pub below : index < asks .count
-  pub shows : itemAt asks index .quantity ≡ quantity
-
--- what the collector, told some ratios, makes of a meter's reply
-abbrev pub collected : {address quantity : ℕ} → Ratios → Meter → Poll address quantity → Answer
-collected r m p = collectorOf (p .request) (replyTo m (p .request) (p .buffer)) r (p .index)
-
 -- so many Wh are never above an exact energy, and below it by less than one step
 pub record Bounds (exact step wh : ℕ) : Type 0 where
   pub above : wh * 360000 ≤ exact
   pub below : exact < (wh + step) * 360000
 
--- register and wrap are read, they join, and what they come to is within the bounds of the ratio's step
-pub record RegisterRead (h : History) (e : ℕ) (register wrapped : Answer) : Type 0 where
-  pub count : Count
-  pub turns : ℕ
-  pub whole : WattHours
-  pub reads : register ≡ Reading (read.Energy count (stepOf (tOf (h .ratios))) (energyOf (tOf (h .ratios)) (count .0)))
-  pub wraps : wrapped ≡ Reading (read.Wrap turns)
-  pub joins : joinOf (h .ratios) count turns ≡ joined.Energy whole
-  pub bounds : Bounds (exactAt e h) (stepOf (tOf (h .ratios))) (whole .0)
+module _ (v : View) where
+  -- a history with two moments: a new meter and any events, then events with no accepted sample between (the first read is one of these)
+  pub record History : Type 0 where
+    pub address : ℕ
+    pub ratios : Ratios
+    pub made : newOf address ratios .answer ≡ Accepted
+    pub events : List Event
+    pub between : List Event
+    pub idle : anyTaken v (afterAll v (newOf address ratios .meter) events) between ≡ false
 
--- Low and High are read, they join, and what they come to is within the bounds of 1 Wh
-pub record HalvesRead (h : History) (e : ℕ) (lower upper : Answer) : Type 0 where
-  pub lows : ℕ
-  pub highs : ℕ
-  pub whole : WattHours
-  pub reads : lower ≡ Reading (read.Low lows)
-  pub heads : upper ≡ Reading (read.High highs)
-  pub joins : joinHalvesOf lows highs ≡ joined.Energy whole
-  pub bounds : Bounds (exactAt e h) 1 (whole .0)
+  -- the meter when the first of two reads comes
+  abbrev pub sooner : History → Meter
+  sooner h = afterAll v (newOf (h .address) (h .ratios) .meter) (h .events)
 
--- STATEMENT: demand 3, for each of the four energies: an item of its register, wherever it stands, with its wrap, and its Low with
--- its High, in either order; between the two reads nothing is added to the exact energy
-pub record Demand3 : Type 0 where
-  pub register-first :
-      (h : History) (e : ℕ) → e < 4 → (r : Poll (h .address) (energyCount e)) (w : Poll (h .address) (wrap e)) →
-      RegisterRead h e (collected (h .ratios) (sooner h) r) (collected (h .ratios) (later h) w)
-  pub wrap-first :
-      (h : History) (e : ℕ) → e < 4 → (r : Poll (h .address) (energyCount e)) (w : Poll (h .address) (wrap e)) →
-      RegisterRead h e (collected (h .ratios) (later h) r) (collected (h .ratios) (sooner h) w)
-  pub low-first :
-      (h : History) (e : ℕ) → e < 4 → (l : Poll (h .address) (low e)) (u : Poll (h .address) (high e)) →
-      HalvesRead h e (collected (h .ratios) (sooner h) l) (collected (h .ratios) (later h) u)
-  pub high-first :
-      (h : History) (e : ℕ) → e < 4 → (l : Poll (h .address) (low e)) (u : Poll (h .address) (high e)) →
-      HalvesRead h e (collected (h .ratios) (later h) l) (collected (h .ratios) (sooner h) u)
-  pub still : (h : History) (e : ℕ) → exactOf e (sooner h) (h .between) ≡ 0
+  -- and when the second comes
+  abbrev pub later : History → Meter
+  later h = afterAll v (sooner h) (h .between)
+
+  -- the exact energy of the samples accepted so far, at the first read and, as `still` says, at the second
+  abbrev pub exactAt : ℕ → History → ℕ
+  exactAt e h = exactOf v e (newOf (h .address) (h .ratios) .meter) (h .events)
+
+  -- a read of a quantity: a request for a meter that is answered with data, room for the reply, and the index of an item that shows it
+  pub record Poll (address quantity : ℕ) : Type 0 where
+    pub request : List ℕ
+    pub buffer : List ℕ
+    pub index : ℕ
+    pub asks : Asks v request
+    pub own : addressOf request ≡ address
+    pub room : 256 ≤ length buffer
+    pub below : index < asks .count
+    pub shows : itemAt v asks index .quantity ≡ quantity
+
+  -- what the collector, told some ratios, makes of a meter's reply
+  abbrev pub collected : {address quantity : ℕ} → Ratios → Meter → Poll address quantity → Answer
+  collected r m p = collectorIn v (p .request) (replyTo v m (p .request) (p .buffer)) r (p .index)
+
+  -- register and wrap are read, they join, and what they come to is within the bounds of the ratio's step
+  pub record RegisterRead (h : History) (e : ℕ) (register wrapped : Answer) : Type 0 where
+    pub count : Count
+    pub turns : ℕ
+    pub whole : WattHours
+    pub reads : register ≡ Reading (read.Energy count (stepOf (tOf (h .ratios))) (energyOf (tOf (h .ratios)) (count .0)))
+    pub wraps : wrapped ≡ Reading (read.Wrap turns)
+    pub joins : joinOf (h .ratios) count turns ≡ joined.Energy whole
+    pub bounds : Bounds (exactAt e h) (stepOf (tOf (h .ratios))) (whole .0)
+
+  -- Low and High are read, they join, and what they come to is within the bounds of 1 Wh
+  pub record HalvesRead (h : History) (e : ℕ) (lower upper : Answer) : Type 0 where
+    pub lows : ℕ
+    pub highs : ℕ
+    pub whole : WattHours
+    pub reads : lower ≡ Reading (read.Low lows)
+    pub heads : upper ≡ Reading (read.High highs)
+    pub joins : joinHalvesOf lows highs ≡ joined.Energy whole
+    pub bounds : Bounds (exactAt e h) 1 (whole .0)
+
+  -- STATEMENT: demand 3, for each of the four energies: an item of its register, wherever it stands, with its wrap, and its Low with
+  -- its High, in either order; between the two reads nothing is added to the exact energy
+  pub record Demand3 : Type 0 where
+    pub register-first :
+        (h : History) (e : ℕ) → e < 4 → (r : Poll (h .address) (energyCount e)) (w : Poll (h .address) (wrap e)) →
+        RegisterRead h e (collected (h .ratios) (sooner h) r) (collected (h .ratios) (later h) w)
+    pub wrap-first :
+        (h : History) (e : ℕ) → e < 4 → (r : Poll (h .address) (energyCount e)) (w : Poll (h .address) (wrap e)) →
+        RegisterRead h e (collected (h .ratios) (later h) r) (collected (h .ratios) (sooner h) w)
+    pub low-first :
+        (h : History) (e : ℕ) → e < 4 → (l : Poll (h .address) (low e)) (u : Poll (h .address) (high e)) →
+        HalvesRead h e (collected (h .ratios) (sooner h) l) (collected (h .ratios) (later h) u)
+    pub high-first :
+        (h : History) (e : ℕ) → e < 4 → (l : Poll (h .address) (low e)) (u : Poll (h .address) (high e)) →
+        HalvesRead h e (collected (h .ratios) (later h) l) (collected (h .ratios) (sooner h) u)
+    pub still : (h : History) (e : ℕ) → exactOf v e (sooner h) (h .between) ≡ 0

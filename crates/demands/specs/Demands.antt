@@ -1,4 +1,5 @@
 -- The customer's three demands: what each is in one line, and the statements that it comes to. Every STATEMENT of the tree is a part.
+use lib.Dec.{T}
 use Rattle.refusal.specs.Numbers.{OneReasonEach}
 use Rattle.crc.specs.Crc.{CrcFits, IntactIsSealed, PutSeals}
 use Rattle.words.specs.Words.{ByteSent, ReadBack}
@@ -7,6 +8,7 @@ use Rattle.lines.specs.Lines.{TextBack}
 use Rattle.counts.specs.Energies.{JoinSplit}
 use Rattle.directory.specs.Rules.{DirectoryRules, ThreeTables}
 use Rattle.directory.specs.Run.{RunSends}
+use Rattle.directory.specs.Views.{View, passes}
 use Rattle.directory.specs.Kinds.{KindsInOrder}
 use Rattle.directory.specs.Bites.{TestsBite}
 use Rattle.modbus.specs.Read.{ReadWhen}
@@ -17,7 +19,7 @@ use Rattle.meter.specs.Energies.{ZeroToNeither}
 use Rattle.meter.specs.Answers.{NewAnswers, SampleAnswers, SetupIdle}
 use Rattle.store.specs.Writes.{WriteWhen}
 use Rattle.registers.specs.Cases.{EveryCase, SetupUnseen}
-use Rattle.board.specs.Answers as board
+use Rattle.demands.specs.Frames as board
 use Rattle.demands.specs.RoundTrip.{WithData, RoundTrip}
 use Rattle.demands.specs.Histories.{TypesKept, AfterEvents}
 use Rattle.demands.specs.Polled.{EveryItemPolled}
@@ -27,15 +29,19 @@ use Rattle.demands.specs.Determined.{Determined, Numbered}
 use Rattle.demands.specs.ShutOut.{ShutOut}
 use Rattle.demands.specs.Starred.{ExamplesHold}
 
+-- what is said of every view that passes the tests, paper 01's own among them (`DirectoryRules.passed`)
+abbrev pub Every : (View → Type 0) → Type 0
+Every Of = (v : View) → T (passes v) → Of v
+
 -- STATEMENT: demand 1: no frame, sample, record or reply stops the board or the collector, and what is damaged, foreign or refused
 -- leaves the meter and the reply buffer untouched, but for the error reply due. (That no call stops: none has a requires, and each
 -- is proved to return its definition's outcome.)
 pub record Demand1 : Type 0 where
   pub samples : SampleAnswers
-  pub frames : board.Untouched
-  pub unseen : board.BufferUnseen
-  pub replies : collector.NotMisread
-  pub records : AfterEvents
+  pub frames : Every board.Untouched
+  pub unseen : Every board.BufferUnseen
+  pub replies : Every collector.NotMisread
+  pub records : Every AfterEvents
 
 -- STATEMENT: what both ends go by: the numbers of answers, CRC, words, directory, lines
 pub record Ground : Type 0 where
@@ -58,9 +64,9 @@ pub record Ground : Type 0 where
 -- STATEMENT: demand 2, its first half: every reply is, byte for byte, the one that paper 01 gives
 pub record Replies : Type 0 where
   pub new-meters : NewAnswers
-  pub frames : board.ExactlyWhen
-  pub obeys : board.Obeys
-  pub whole : board.RepliesSealed
+  pub frames : Every board.ExactlyWhen
+  pub obeys : Every board.Obeys
+  pub whole : Every board.RepliesSealed
   pub reads : ReadWhen
   pub writes : WriteWhen
   pub shown : EveryCase
@@ -70,14 +76,14 @@ pub record Replies : Type 0 where
 
 -- STATEMENT: demand 2, its second half: the collector turns each reply into the one reading assigned, or the one refusal
 pub record Readings : Type 0 where
-  pub answers : collector.ExactlyWhen
+  pub answers : Every collector.ExactlyWhen
   pub impossible : ThirteenWhen
   pub joins : collector.JoinsWhen
   pub split : JoinSplit
-  pub with-data : WithData
-  pub readings : RoundTrip
-  pub typed : TypesKept
-  pub always : ReadsAlways
+  pub with-data : Every WithData
+  pub readings : Every RoundTrip
+  pub typed : Every TypesKept
+  pub always : Every ReadsAlways
 
 -- STATEMENT: demand 2, with the ground of both halves, and what is said of every call: its outcome is determined, and the paper's
 -- examples come out
@@ -94,7 +100,7 @@ pub record Demand2 : Type 0 where
 pub record Demands : Type 0 where
   pub one : Demand1
   pub two : Demand2
-  pub three : Demand3
-  pub polled : EveryItemPolled
-  pub not-empty : NotEmpty
-  pub tight : ShutOut
+  pub three : Every Demand3
+  pub polled : Every EveryItemPolled
+  pub not-empty : Every NotEmpty
+  pub tight : Every ShutOut

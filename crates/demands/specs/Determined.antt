@@ -19,7 +19,7 @@ use Rattle.store.specs.Writes.{verdictTold}
 use Rattle.board.specs.declared.Reply.{Reply}
 use Rattle.board.specs.declared.Handled.{Handled}
 use Rattle.board.specs.Board.{Allowed, boardOf}
-use Rattle.board.specs.Answers.{replyTold}
+use Rattle.demands.specs.Frames.{replyTold}
 
 -- STATEMENT: any two outcomes that a contract allows are equal: of `board::handle`, `crc::put`, `lines::frame` and `lines::text`
 pub record Determined : Type 0 where

@@ -5,6 +5,7 @@ use mathlib.Core.Bool.{Bool, true, false, _||_}
 use mathlib.Core.List.{List, [], _∷_}
 use lib.ListN.{getD}
 use Rattle.ratio.specs.declared.Ratios.{Ratios}
+use Rattle.directory.specs.Views.{View}
 use Rattle.meter.specs.declared.samples.Sample.{Sample}
 use Rattle.meter.specs.declared.Meter.{Meter}
 use Rattle.meter.specs.Energies.{valueOf}
@@ -12,17 +13,12 @@ use Rattle.meter.specs.Meters.{meterOk, newOf, energyAt}
 use Rattle.meter.specs.After.{afterOf}
 use Rattle.meter.specs.Carried.{isAccepted, addedBy}
 use Rattle.registers.specs.Cases.{SampleTyped, Typed}
-use Rattle.board.specs.Board.{boardOf}
+use Rattle.board.specs.Board.{boardIn}
 
 -- an event: a sample is handed over, or a frame, with a buffer for the reply
 pub data Event : Type 0 where
   sample : Sample → Event
   frame : List ℕ → List ℕ → Event
-
--- the meter after an event
-abbrev pub afterEvent : Meter → Event → Meter
-afterEvent m (Event.sample s) = afterOf m s .meter
-afterEvent m (Event.frame bytes buffer) = boardOf m bytes buffer .handled .meter
 
 -- what an event adds to an energy: a sample what it carries, where it is accepted; a frame nothing
 abbrev pub eventAdds : ℕ → Meter → Event → ℕ
@@ -34,21 +30,6 @@ abbrev pub isTaken : Meter → Event → Bool
 isTaken m (Event.sample s) = isAccepted (afterOf m s .answer)
 isTaken m (Event.frame bytes buffer) = false
 
--- the meter after some events, one by one
-unfoldable pub afterAll : Meter → List Event → Meter
-afterAll m [] = m
-afterAll m (x ∷ xs) = afterAll (afterEvent m x) xs
-
--- the exact energy of the samples accepted among them, in hundredths of a watt-second: the plain sum of what they carry
-unfoldable pub exactOf : ℕ → Meter → List Event → ℕ
-exactOf e m [] = 0
-exactOf e m (x ∷ xs) = eventAdds e m x + exactOf e (afterEvent m x) xs
-
--- a sample is accepted among them
-unfoldable pub anyTaken : Meter → List Event → Bool
-anyTaken m [] = false
-anyTaken m (x ∷ xs) = isTaken m x || anyTaken (afterEvent m x) xs
-
 -- an event as a program hands it over: a sample whose figures fit their types, a frame of bytes
 abbrev pub EventTyped : Event → Type 0
 EventTyped (Event.sample s) = SampleTyped s
@@ -59,15 +40,36 @@ pub data AllTyped : List Event → Type 0 where
   none : AllTyped []
   more : {x : Event} {xs : List Event} → EventTyped x → AllTyped xs → AllTyped (x ∷ xs)
 
--- STATEMENT: a new meter is as a program holds it, and such events leave it so
-pub record TypesKept : Type 0 where
-  pub new : (address : ℕ) (r : Ratios) → Typed (newOf address r .meter)
-  pub event : (m : Meter) (x : Event) → Typed m → EventTyped x → Typed (afterEvent m x)
-  pub events : (m : Meter) (xs : List Event) → Typed m → AllTyped xs → Typed (afterAll m xs)
+module _ (v : View) where
+  -- the meter after an event
+  abbrev pub afterEvent : Meter → Event → Meter
+  afterEvent m (Event.sample s) = afterOf m s .meter
+  afterEvent m (Event.frame bytes buffer) = boardIn v m bytes buffer .handled .meter
 
--- STATEMENT: after any events a record is still within limits, what it was given (address and ratios) is as it was, and each energy,
--- Wh × 360,000 + remainder, has grown by the exact energy of the samples accepted
-pub record AfterEvents : Type 0 where
-  pub within : (m : Meter) (xs : List Event) → meterOk m ≡ true → meterOk (afterAll m xs) ≡ true
-  pub given : (m : Meter) (xs : List Event) → afterAll m xs .given ≡ m .given
-  pub grows : (e : ℕ) (m : Meter) (xs : List Event) → valueOf (energyAt e (afterAll m xs)) ≡ valueOf (energyAt e m) + exactOf e m xs
+  -- the meter after some events, one by one
+  unfoldable pub afterAll : Meter → List Event → Meter
+  afterAll m [] = m
+  afterAll m (x ∷ xs) = afterAll (afterEvent m x) xs
+
+  -- the exact energy of the samples accepted among them, in hundredths of a watt-second: the plain sum of what they carry
+  unfoldable pub exactOf : ℕ → Meter → List Event → ℕ
+  exactOf e m [] = 0
+  exactOf e m (x ∷ xs) = eventAdds e m x + exactOf e (afterEvent m x) xs
+
+  -- a sample is accepted among them
+  unfoldable pub anyTaken : Meter → List Event → Bool
+  anyTaken m [] = false
+  anyTaken m (x ∷ xs) = isTaken m x || anyTaken (afterEvent m x) xs
+
+  -- STATEMENT: a new meter is as a program holds it, and such events leave it so
+  pub record TypesKept : Type 0 where
+    pub new : (address : ℕ) (r : Ratios) → Typed (newOf address r .meter)
+    pub event : (m : Meter) (x : Event) → Typed m → EventTyped x → Typed (afterEvent m x)
+    pub events : (m : Meter) (xs : List Event) → Typed m → AllTyped xs → Typed (afterAll m xs)
+
+  -- STATEMENT: after any events a record is still within limits, what it was given (address and ratios) is as it was, and each energy,
+  -- Wh × 360,000 + remainder, has grown by the exact energy of the samples accepted
+  pub record AfterEvents : Type 0 where
+    pub within : (m : Meter) (xs : List Event) → meterOk m ≡ true → meterOk (afterAll m xs) ≡ true
+    pub given : (m : Meter) (xs : List Event) → afterAll m xs .given ≡ m .given
+    pub grows : (e : ℕ) (m : Meter) (xs : List Event) → valueOf (energyAt e (afterAll m xs)) ≡ valueOf (energyAt e m) + exactOf e m xs

@@ -1,4 +1,5 @@
 pub mod Meaning
+pub mod Frames
 pub mod RoundTrip
 pub mod Polled
 pub mod Histories

@@ -7,7 +7,7 @@ use mathlib.Core.List.{List, [], _∷_, map}
 use lib.ListN.{length, getD}
 use Rattle.ratio.specs.declared.Ratios.{Ratios}
 use Rattle.directory.specs.Item.{none}
-use Rattle.directory.specs.Table.{directory}
+use Rattle.directory.specs.Views.{View}
 use Rattle.reading.specs.declared.Answer.the-variants.{Reading}
 use Rattle.meter.specs.declared.Answer.the-variants.{Accepted}
 use Rattle.meter.specs.declared.Meter.{Meter}
@@ -17,33 +17,34 @@ use Rattle.demands.specs.Meaning.{meaningOf}
 use Rattle.demands.specs.Histories.{Event, afterAll, anyTaken, AllTyped}
 use Rattle.demands.specs.Demand3.{History, Poll, collected}
 
--- the history of a new meter with some events, and some between the two reads
-abbrev pub HistoryOf : ℕ → Ratios → List Event → List Event → Type 0
-HistoryOf address r events between =
-    (h : History) × (h .address ≡ address) × (h .ratios ≡ r) × (h .events ≡ events) × (h .between ≡ between)
-
 -- frames, each with a buffer
 abbrev pub frames : List ℕ → List (List ℕ) → List Event
 frames buffer fs = map (λ (bytes : List ℕ). Event.frame bytes buffer) fs
 
--- a poll of the item of an index
-abbrev pub ItemPoll : ℕ → ℕ → Type 0
-ItemPoll address i = (p : Poll address (getD directory i none .quantity)) × (p .asks .first + p .index ≡ i)
+module _ (v : View) where
+  -- the history of a new meter with some events, and some between the two reads
+  abbrev pub HistoryOf : ℕ → Ratios → List Event → List Event → Type 0
+  HistoryOf address r events between =
+      (h : History v) × (h .address ≡ address) × (h .ratios ≡ r) × (h .events ≡ events) × (h .between ≡ between)
 
--- STATEMENT: a history for every accepted new meter, all events and any without an accepted sample between, as any frames are; a
--- poll for every item of the directory and every own address; events as a program hands them over
-pub record NotEmpty : Type 0 where
-  pub history :
-      (address : ℕ) (r : Ratios) (events between : List Event) → newOf address r .answer ≡ Accepted →
-      anyTaken (afterAll (newOf address r .meter) events) between ≡ false → HistoryOf address r events between
-  pub idle : (m : Meter) (buffer : List ℕ) (fs : List (List ℕ)) → anyTaken m (frames buffer fs) ≡ false
-  pub poll : (address i : ℕ) → 1 ≤ address → i < length directory → ItemPoll address i
-  pub typed : AllTyped (Event.sample noSample ∷ Event.frame (0 ∷ []) [] ∷ [])
+  -- a poll of the item of an index
+  abbrev pub ItemPoll : ℕ → ℕ → Type 0
+  ItemPoll address i = (p : Poll v address (getD (v .seen) i none .quantity)) × (p .asks .first + p .index ≡ i)
 
--- STATEMENT: the round trip over histories: from an accepted new meter, after any events as a program hands them over, every item
--- that can be polled, and each of the directory can, is read as its quantity, and never refused
-pub record ReadsAlways : Type 0 where
-  pub polls :
-      (address : ℕ) (r : Ratios) (xs : List Event) → newOf address r .answer ≡ Accepted → AllTyped xs →
-      (q : ℕ) (p : Poll address q) →
-      collected r (afterAll (newOf address r .meter) xs) p ≡ Reading (meaningOf (afterAll (newOf address r .meter) xs) q)
+  -- STATEMENT: a history for every accepted new meter, all events and any without an accepted sample between, as any frames are; a
+  -- poll for every item of the directory and every own address; events as a program hands them over
+  pub record NotEmpty : Type 0 where
+    pub history :
+        (address : ℕ) (r : Ratios) (events between : List Event) → newOf address r .answer ≡ Accepted →
+        anyTaken v (afterAll v (newOf address r .meter) events) between ≡ false → HistoryOf address r events between
+    pub idle : (m : Meter) (buffer : List ℕ) (fs : List (List ℕ)) → anyTaken v m (frames buffer fs) ≡ false
+    pub poll : (address i : ℕ) → 1 ≤ address → i < length (v .seen) → ItemPoll address i
+    pub typed : AllTyped (Event.sample noSample ∷ Event.frame (0 ∷ []) [] ∷ [])
+
+  -- STATEMENT: the round trip over histories: from an accepted new meter, after any events as a program hands them over, every item
+  -- that can be polled, and each of the directory can, is read as its quantity, and never refused
+  pub record ReadsAlways : Type 0 where
+    pub polls :
+        (address : ℕ) (r : Ratios) (xs : List Event) → newOf address r .answer ≡ Accepted → AllTyped xs →
+        (q : ℕ) (p : Poll v address q) →
+        collected v r (afterAll v (newOf address r .meter) xs) p ≡ Reading (meaningOf (afterAll v (newOf address r .meter) xs) q)

@@ -9,7 +9,7 @@ use Rattle.words.specs.Words.{word}
 use Rattle.directory.specs.declared.Item.{Item}
 use Rattle.directory.specs.declared.Span.the-variants.{Items}
 use Rattle.directory.specs.Item.{none}
-use Rattle.directory.specs.Table.{directory}
+use Rattle.directory.specs.Views.{View}
 use Rattle.modbus.specs.Frame.{isRead}
 use Rattle.modbus.specs.Read.{readIn}
 use Rattle.meter.specs.declared.Meter.{Meter}
@@ -21,10 +21,11 @@ use Rattle.demands.specs.RoundTrip.{replyTo}
 abbrev pub requestFor : ℕ → Item → List ℕ
 requestFor address it = sealed ((address ∷ 0x03 ∷ []) ++ word (it .start) ++ word (it .words))
 
--- STATEMENT: each item is heard and found by its read, which a meter within limits answers with data: it neither refuses nor stays silent
-pub record EveryItemPolled : Type 0 where
-  pub hears : (address i : ℕ) → 1 ≤ address → i < length directory → heard (requestFor address (getD directory i none)) ≡ true
-  pub items : (address i : ℕ) → i < length directory → readIn directory (requestFor address (getD directory i none)) ≡ Items i 1
-  pub data-sent :
-      (m : Meter) (i : ℕ) (b : List ℕ) → meterOk m ≡ true → i < length directory → 256 ≤ length b →
-      isRead (replyTo m (requestFor (m .given .address) (getD directory i none)) b) ≡ true
+module _ (v : View) where
+  -- STATEMENT: each item is heard and found by its read, which a meter within limits answers with data: it neither refuses nor stays silent
+  pub record EveryItemPolled : Type 0 where
+    pub hears : (address i : ℕ) → 1 ≤ address → i < length (v .seen) → heard (requestFor address (getD (v .seen) i none)) ≡ true
+    pub items : (address i : ℕ) → i < length (v .seen) → readIn v (requestFor address (getD (v .seen) i none)) ≡ Items i 1
+    pub data-sent :
+        (m : Meter) (i : ℕ) (b : List ℕ) → meterOk m ≡ true → i < length (v .seen) → 256 ≤ length b →
+        isRead (replyTo v m (requestFor (m .given .address) (getD (v .seen) i none)) b) ≡ true

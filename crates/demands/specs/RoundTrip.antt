@@ -9,6 +9,7 @@ use lib.ListN.{length, take}
 use Rattle.refusal.specs.Numbers.{refusedBy, errorBy}
 use Rattle.ratio.specs.declared.Ratios.{Ratios}
 use Rattle.ratio.specs.Ratios.{ratiosOk}
+use Rattle.directory.specs.Views.{View}
 use Rattle.modbus.specs.Frame.{addressOf, isRead}
 use Rattle.modbus.specs.Replies.{errorBytes}
 use Rattle.meter.specs.declared.Meter.{Meter}
@@ -16,9 +17,9 @@ use Rattle.meter.specs.Meters.{meterOk}
 use Rattle.registers.specs.Cases.{Typed}
 use Rattle.board.specs.declared.Reply.{Reply}
 use Rattle.board.specs.declared.Reply.the-variants as board
-use Rattle.board.specs.Board.{boardOf}
+use Rattle.board.specs.Board.{boardIn}
 use Rattle.reading.specs.declared.Answer.the-variants.{Reading}
-use Rattle.collector.specs.Collector.{collectorOf}
+use Rattle.collector.specs.Collector.{collectorIn}
 use Rattle.collector.specs.Answers.{Asks, Asked, itemAt, Comes}
 use Rattle.demands.specs.Meaning.{meaningOf}
 
@@ -28,34 +29,35 @@ replyIn board.Silent buffer = []
 replyIn (board.Refused reason) buffer = []
 replyIn (board.Sent n) buffer = take n buffer
 
--- what a meter replies to a request
-abbrev pub replyTo : Meter → List ℕ → List ℕ → List ℕ
-replyTo m request b = replyIn (boardOf m request b .handled .reply) (boardOf m request b .buffer)
-
 -- a meter within limits, of the address that a request names, with room for its reply
 pub record Meets (m : Meter) (request b : List ℕ) : Type 0 where
   pub within : meterOk m ≡ true
   pub room : 256 ≤ length b
   pub own : m .given .address ≡ addressOf request
 
--- STATEMENT: the requests that the collector takes for a read that a meter of that own address answers with data are just those
--- that every such meter answers with data, a reply of function 0x03
-pub record WithData : Type 0 where
-  pub same : (m : Meter) (request b : List ℕ) → Meets m request b → Asks request ↔ (isRead (replyTo m request b) ≡ true)
+module _ (v : View) where
+  -- what a meter replies to a request
+  abbrev pub replyTo : Meter → List ℕ → List ℕ → List ℕ
+  replyTo m request b = replyIn (boardIn v m request b .handled .reply) (boardIn v m request b .buffer)
 
--- STATEMENT: told the meter's own ratios, the collector gives for every index just the reading of that item's quantity, and 12 past the
--- items; an error reply to such a request gives its code, whatever the index; a request that the meter does not answer with data
--- is 7, whatever the reply
-pub record RoundTrip : Type 0 where
-  pub reads :
-      (m : Meter) (request b : List ℕ) (index : ℕ) → Typed m → Meets m request b → (a : Asks request) → index < a .count →
-      collectorOf request (replyTo m request b) (m .given .ratios) index ≡ Reading (meaningOf m (itemAt a index .quantity))
-  pub past :
-      (m : Meter) (request b : List ℕ) (index : ℕ) → Meets m request b → (a : Asks request) → a .count ≤ index →
-      Comes request (replyTo m request b) (m .given .ratios) index (refusedBy 12)
-  pub error :
-      (request : List ℕ) (r : Ratios) (index code : ℕ) → Asked request r → 1 ≤ code → code ≤ 3 →
-      Comes request (errorBytes request code) r index (errorBy code)
-  pub other :
-      (m : Meter) (request b reply : List ℕ) (r : Ratios) (index : ℕ) → Meets m request b → ratiosOk r ≡ true →
-      isRead (replyTo m request b) ≡ false → Comes request reply r index (refusedBy 7)
+  -- STATEMENT: the requests that the collector takes for a read that a meter of that own address answers with data are just those
+  -- that every such meter answers with data, a reply of function 0x03
+  pub record WithData : Type 0 where
+    pub same : (m : Meter) (request b : List ℕ) → Meets m request b → Asks v request ↔ (isRead (replyTo m request b) ≡ true)
+
+  -- STATEMENT: told the meter's own ratios, the collector gives for every index just the reading of that item's quantity, and 12 past the
+  -- items; an error reply to such a request gives its code, whatever the index; a request that the meter does not answer with data
+  -- is 7, whatever the reply
+  pub record RoundTrip : Type 0 where
+    pub reads :
+        (m : Meter) (request b : List ℕ) (index : ℕ) → Typed m → Meets m request b → (a : Asks v request) → index < a .count →
+        collectorIn v request (replyTo m request b) (m .given .ratios) index ≡ Reading (meaningOf m (itemAt v a index .quantity))
+    pub past :
+        (m : Meter) (request b : List ℕ) (index : ℕ) → Meets m request b → (a : Asks v request) → a .count ≤ index →
+        Comes v request (replyTo m request b) (m .given .ratios) index (refusedBy 12)
+    pub error :
+        (request : List ℕ) (r : Ratios) (index code : ℕ) → Asked v request r → 1 ≤ code → code ≤ 3 →
+        Comes v request (errorBytes request code) r index (errorBy code)
+    pub other :
+        (m : Meter) (request b reply : List ℕ) (r : Ratios) (index : ℕ) → Meets m request b → ratiosOk r ≡ true →
+        isRead (replyTo m request b) ≡ false → Comes v request reply r index (refusedBy 7)

@@ -11,6 +11,7 @@ use Rattle.ratio.specs.Ratios.{tOf}
 use Rattle.ratio.specs.Steps.{stepOf}
 use Rattle.counts.specs.Energies.{topCount, registerOf, wrapOf, energyOf, joinOf, joinTold}
 use Rattle.directory.specs.Quantity.{energyCount, wrap, posEa}
+use Rattle.directory.specs.Views.{View}
 use Rattle.reading.specs.declared.Answer.{Answer}
 use Rattle.reading.specs.Cases.{told}
 use Rattle.meter.specs.declared.Answer.the-variants.{Accepted}
@@ -21,10 +22,6 @@ use Rattle.meter.specs.After.{afterOf}
 use Rattle.demands.specs.Histories.{Event, afterAll, exactOf}
 use Rattle.demands.specs.Demand3.{Poll, collected, Bounds}
 
--- some board and collector, whatever they are, as the Wh of an energy that they make of a new meter's events: demand 3 holds of them
-abbrev pub Keeps : ℕ → Ratios → ℕ → (List Event → ℕ) → Type 0
-Keeps address r e figure = (xs : List Event) → Bounds (exactOf e (newOf address r .meter) xs) (stepOf (tOf r)) (figure xs)
-
 -- the value of a reading, behind the number of its kind
 abbrev pub valueRead : Answer → ℕ
 valueRead answer = getD (told answer) 2 0
@@ -32,11 +29,6 @@ valueRead answer = getD (told answer) 2 0
 -- the Wh that register and wrap join to, as they are read
 abbrev pub joinedWh : Ratios → Answer → Answer → ℕ
 joinedWh r register wrapped = getD (joinTold (joinOf r (record { 0 = valueRead register }) (valueRead wrapped))) 1 0
-
--- our own board and collector: after the events, register and wrap are polled, read and joined
-abbrev pub ours : (address : ℕ) → Ratios → (e : ℕ) → Poll address (energyCount e) → Poll address (wrap e) → List Event → ℕ
-ours address r e register wrapped xs =
-    joinedWh r (collected r (afterAll (newOf address r .meter) xs) register) (collected r (afterAll (newOf address r .meter) xs) wrapped)
 
 -- without transformers the step is 10 Wh
 abbrev pub bareRatios : Ratios
@@ -57,29 +49,39 @@ tenWh =
       frequency = 0;
     }
 
--- a board and collector by which demand 3 holds of +Ea of such a meter
-abbrev pub KeepsBare : (List Event → ℕ) → Type 0
-KeepsBare figure = Keeps 1 bareRatios posEa figure
+module _ (v : View) where
+  -- some board and collector, whatever they are, as the Wh of an energy that they make of a new meter's events: demand 3 holds of them
+  abbrev pub Keeps : ℕ → Ratios → ℕ → (List Event → ℕ) → Type 0
+  Keeps address r e figure = (xs : List Event) → Bounds (exactOf v e (newOf address r .meter) xs) (stepOf (tOf r)) (figure xs)
 
--- STATEMENT: demand 3 holds of our own board and collector, whatever the new meter, the energy and the polls; it fails of a
--- collector that reports the same each time, of a board that ignores samples, of one that counts the first and nods at the others;
--- a count and wrap whose join keeps the bounds are the register and wrap of the exact energy, none made up; a new meter takes every
--- sample within limits
-pub record ShutOut : Type 0 where
-  pub kept :
-      (address : ℕ) (r : Ratios) → newOf address r .answer ≡ Accepted →
-      (e : ℕ) → e < 4 → (register : Poll address (energyCount e)) (wrapped : Poll address (wrap e)) →
-      Keeps address r e (ours address r e register wrapped)
-  pub same-each-time : (figure : List Event → ℕ) → ((xs : List Event) → figure xs ≡ figure []) → KeepsBare figure → ⊥
-  pub ignores-samples :
-      (figure : List Event → ℕ) → ((s : Sample) (xs : List Event) → figure (Event.sample s ∷ xs) ≡ figure xs) → KeepsBare figure → ⊥
-  pub first-only :
-      (figure : List Event → ℕ) →
-      ((s t : Sample) (xs : List Event) → figure (Event.sample s ∷ Event.sample t ∷ xs) ≡ figure (Event.sample s ∷ xs)) →
-      KeepsBare figure → ⊥
-  pub made-up :
-      (t exact count wrap : ℕ) → count ≤ topCount → Bounds exact (stepOf t) (energyOf t (wrap * 100000000 + count) .0) →
-      (count ≡ registerOf t (record { 0 = exact / 360000 }) .0) × (wrap ≡ wrapOf t (record { 0 = exact / 360000 }))
-  pub takes :
-      (address : ℕ) (r : Ratios) (s : Sample) → newOf address r .answer ≡ Accepted → sampleOk (tOf r) s ≡ true →
-      afterOf (newOf address r .meter) s .answer ≡ Accepted
+  -- our own board and collector: after the events, register and wrap are polled, read and joined
+  abbrev pub ours : (address : ℕ) → Ratios → (e : ℕ) → Poll v address (energyCount e) → Poll v address (wrap e) → List Event → ℕ
+  ours address r e register wrapped xs =
+      joinedWh r (collected v r (afterAll v (newOf address r .meter) xs) register) (collected v r (afterAll v (newOf address r .meter) xs) wrapped)
+
+  -- a board and collector by which demand 3 holds of +Ea of such a meter
+  abbrev pub KeepsBare : (List Event → ℕ) → Type 0
+  KeepsBare figure = Keeps 1 bareRatios posEa figure
+
+  -- STATEMENT: demand 3 holds of our own board and collector, whatever the new meter, the energy and the polls; it fails of a
+  -- collector that reports the same each time, of a board that ignores samples, of one that counts the first and nods at the others;
+  -- a count and wrap whose join keeps the bounds are the register and wrap of the exact energy, none made up; a new meter takes every
+  -- sample within limits
+  pub record ShutOut : Type 0 where
+    pub kept :
+        (address : ℕ) (r : Ratios) → newOf address r .answer ≡ Accepted →
+        (e : ℕ) → e < 4 → (register : Poll v address (energyCount e)) (wrapped : Poll v address (wrap e)) →
+        Keeps address r e (ours address r e register wrapped)
+    pub same-each-time : (figure : List Event → ℕ) → ((xs : List Event) → figure xs ≡ figure []) → KeepsBare figure → ⊥
+    pub ignores-samples :
+        (figure : List Event → ℕ) → ((s : Sample) (xs : List Event) → figure (Event.sample s ∷ xs) ≡ figure xs) → KeepsBare figure → ⊥
+    pub first-only :
+        (figure : List Event → ℕ) →
+        ((s t : Sample) (xs : List Event) → figure (Event.sample s ∷ Event.sample t ∷ xs) ≡ figure (Event.sample s ∷ xs)) →
+        KeepsBare figure → ⊥
+    pub made-up :
+        (t exact count wrap : ℕ) → count ≤ topCount → Bounds exact (stepOf t) (energyOf t (wrap * 100000000 + count) .0) →
+        (count ≡ registerOf t (record { 0 = exact / 360000 }) .0) × (wrap ≡ wrapOf t (record { 0 = exact / 360000 }))
+    pub takes :
+        (address : ℕ) (r : Ratios) (s : Sample) → newOf address r .answer ≡ Accepted → sampleOk (tOf r) s ≡ true →
+        afterOf (newOf address r .meter) s .answer ≡ Accepted
