@@ -69,14 +69,7 @@ fn heard(request: &[u8]) -> bool
 }
 
 // The rest with the table lent: to name the constant is to lay it out anew.
-fn along(
-    t: &[u16],
-    reach: Reach,
-    request: &[u8],
-    reply: &[u8],
-    tenths: u32,
-    index: usize,
-) -> Answer
+fn along(t: &[u16], reach: Reach, request: &[u8], reply: &[u8], tenths: u32, index: usize) -> Answer
     requires { ⌜ Lent (now t) reach ⌝ }
     ensures { λ r. ⌜ r ≡ onItems (viewOf (now (t .entry)) reach) (readIn (viewOf (now (t .entry)) reach) (now (request .entry))) (λ its. replyOf tenths (now (request .entry)) (now (reply .entry)) its index) ⌝ }
 {

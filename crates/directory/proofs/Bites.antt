@@ -22,4 +22,8 @@ tests-bite = record {
   kta-in-B = refl;
   voltage-in-W = refl;
   kta-in-L = refl;
+  shape-alone = refl;
+  meaning-alone = refl;
+  one-word-at-most = refl;
+  words-past-a-frame = refl;
 }

@@ -9,7 +9,7 @@ use Rattle.directory.specs.declared.Item.{Item}
 use Rattle.directory.specs.declared.Reach.{Reach}
 use Rattle.directory.specs.Table.{directory}
 use Rattle.directory.specs.Order.{ascends, every, ruled, shaped, meant}
-use Rattle.directory.specs.Views.{View, passes, own, viewOf, Lent}
+use Rattle.directory.specs.Views.{View, passes, own, ownReach, viewOf, Lent}
 use Rattle.directory.specs.Kinds.{firstOfKind, KindsInOrder}
 use Rattle.directory.specs.Rules.{DirectoryRules, placesOf, ThreeTables}
 use Rattle.directory.proofs.Flat.{items-length, flat, items-flat}
@@ -40,12 +40,12 @@ directory-rules = record {
   starts = found-starts;
 }
 
--- the constant table, seen whole and asked for 120 words at the most
-module _ (reach : Reach) (whole : reach ≡ record { items = 142; most = 120 }) where
+-- the constant table, seen whole
+module _ (reach : Reach) (whole : reach ≡ ownReach) where
   pub own-view : viewOf (flat directory) reach ≡ own
   own-view =
       ap (viewOf (flat directory)) whole
-      ∙ ap (λ (its : List Item). record { seen = its; most = 120 }) (ap (take 142) (items-flat directory) ∙ take-all 142 directory (omega (arith, directory-count)))
+      ∙ ap (λ (its : List Item). record { seen = its; most = own .most }) (ap (take 142) (items-flat directory) ∙ take-all 142 directory (omega (arith, directory-count)))
 
   pub own-lent : Lent (flat directory) reach
   own-lent = record {

@@ -1,6 +1,6 @@
 -- What the shape of an item tells: a W or B sends one word and has room for two bytes at the most, an L is no B, and what has room in an item
 -- has room in its words.
-use mathlib.Core.Path.{_≡_, refl, sym, ap, _∙_}
+use mathlib.Core.Path.{_≡_, refl, sym, _∙_}
 use mathlib.Core.Bool.{Bool, true, false, _&&_, _||_, cond, false≢true, and-eq-true-iff}
 use Prim.Native.Nat.{ℕ, _*_, _≤_}
 use native.Mathlib.Omega.{arith}

@@ -1,6 +1,6 @@
 -- The first n items of a table are as many as asked, and item by item the table's own; what passes the tests, test by test; and a run of
 -- the items that are seen stands in a part of the table.
-use mathlib.Core.Path.{_≡_, refl, sym, ap, _∙_}
+use mathlib.Core.Path.{_≡_, refl, sym, _∙_}
 use mathlib.Core.List.{List, [], _∷_}
 use Prim.Native.Nat.{ℕ, zero, suc, _+_, _*_, _≤_, _<_}
 use native.Mathlib.Omega.{arith}

@@ -1,11 +1,12 @@
--- Paper 01, "The directory": the tests of a directory bite. Each is computed on items that are wrong in one thing alone.
+-- Paper 01, "The directory": the tests of a directory, and of a view, bite. Each is computed on what is wrong in one thing alone.
 use mathlib.Core.Path.{_≡_}
 use mathlib.Core.Bool.{false}
 use mathlib.Core.List.{[], _∷_}
 use Rattle.directory.specs.declared.Item.{Item}
 use Rattle.directory.specs.Item.{item}
 use Rattle.directory.specs.Quantity.{voltage, kta, L1, L2}
-use Rattle.directory.specs.Order.{ascends, every, narrow, ruled, shaped, meant}
+use Rattle.directory.specs.Order.{ascends, every, narrow, ruled, shaped, meant, tested}
+use Rattle.directory.specs.Views.{passes}
 
 -- a good item: an L of the byte block
 abbrev good : Item
@@ -43,3 +44,9 @@ pub record TestsBite : Type 0 where
   pub kta-in-B : meant (item 0x300 1 1 kta) ≡ false
   pub voltage-in-W : meant (item 0x1000 1 1 (voltage L1)) ≡ false
   pub kta-in-L : meant (item 0x301 4 2 kta) ≡ false
+  -- rejected for a shape alone (one word that fills 3 of the byte block), and for a meaning alone
+  pub shape-alone : tested (item 0x300 3 1 kta ∷ []) ≡ false
+  pub meaning-alone : tested (item 0x301 4 2 kta ∷ []) ≡ false
+  -- of a view: no L may be asked for; 126 words, with head and CRC, are 257 bytes
+  pub one-word-at-most : passes (record { seen = good ∷ []; most = 1 }) ≡ false
+  pub words-past-a-frame : passes (record { seen = good ∷ []; most = 126 }) ≡ false

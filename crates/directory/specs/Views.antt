@@ -24,6 +24,10 @@ passes v = tested (v .seen) && (leb 2 (v .most) && leb (5 + 2 * v .most) 256)
 abbrev pub own : View
 own = record { seen = directory; most = 120 }
 
+-- how far the constant table of the code is seen, for that
+abbrev pub ownReach : Reach
+ownReach = record { items = 142; most = own .most }
+
 -- a flat table that is lent, as far as it is seen
 abbrev pub viewOf : List ℕ → Reach → View
 viewOf t reach = record { seen = take (reach .items) (items t); most = reach .most }

@@ -12,6 +12,7 @@ ghost use Rattle.directory.specs.Item.{items, none, isB};
 ghost use Rattle.directory.specs.Order.{ruled};
 ghost use Rattle.directory.specs.Run.{findIn, runIn};
 ghost use Rattle.directory.specs.Table.{directory};
+ghost use Rattle.directory.specs.Views.{ownReach};
 use refusal::ErrorCode;
 
 pub struct Item {
@@ -44,7 +45,7 @@ pub struct Reach {
 impl Reach {
     // Paper 01's own.
     pub fn own() -> Reach
-        ensures { λ r. ⌜ r ≡ record { items = 142; most = 120 } ⌝ }
+        ensures { λ r. ⌜ r ≡ ownReach ⌝ }
     {
         Reach {
             items: ITEMS,

@@ -7,7 +7,7 @@ ghost use lib.Seq.{sets};
 ghost use Rattle.hex.specs.Hex.{digitOf, pairOk, byteOf, capital, pairOf};
 
 // 16 stands for what is no digit, so that one test tells.
-pub fn digit(c: u8) -> u8
+fn digit(c: u8) -> u8
     ensures { λ r. ⌜ r ≡ digitOf c ⌝ }
 {
     if (b'0' <= c) & (c <= b'9') {
@@ -44,7 +44,7 @@ pub fn put_digits(buffer: &mut [u8], at: usize, b: u8)
     buffer[at + 1] = capital(b % 16);
 }
 
-pub fn capital(d: u8) -> u8
+fn capital(d: u8) -> u8
     requires { ⌜ d < 16 ⌝ }
     ensures { λ r. ⌜ r ≡ capital d ⌝ }
 {

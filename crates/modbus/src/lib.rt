@@ -74,12 +74,7 @@ pub fn read_in(t: &[u16], reach: Reach, frame: &[u8]) -> Span
     if (words < 1) | (reach.most < words) {
         return Span::Error(ErrorCode::Data);
     }
-    directory::run_in(
-        t,
-        reach.items,
-        words::word_at(frame, START),
-        words,
-    )
+    directory::run_in(t, reach.items, words::word_at(frame, START), words)
 }
 
 // Whether a write has the words and bytes that it says.

@@ -1,12 +1,12 @@
 -- In each turn the words of one item more are passed; an item sends one word or two.
-use mathlib.Core.Path.{_≡_, refl, sym, ap, _∙_}
+use mathlib.Core.Path.{_≡_, refl, ap, _∙_}
 use native.Mathlib.Omega.{arith}
 use native.Mathlib.Numerals.{add-one}
 use mathlib.Core.List.{List}
-use Prim.Native.Nat.{ℕ, suc, _+_, _-_, _*_, _≤_}
-use lib.ListN.{length, getD, take}
+use Prim.Native.Nat.{ℕ, _+_, _-_, _*_, _≤_}
+use lib.ListN.{take}
 use Rattle.directory.specs.declared.Item.{Item}
-use Rattle.directory.specs.Item.{items, none}
+use Rattle.directory.specs.Item.{items}
 use Rattle.directory.specs.Run.{wordsOf}
 use Rattle.directory.proofs.Flat.{items-length}
 use Rattle.directory.proofs.Order.{Narrow, every-narrow}

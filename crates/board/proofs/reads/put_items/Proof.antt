@@ -3,12 +3,12 @@ use mathlib.Core.Path.{_≡_, refl, sym, ap, _∙_}
 use mathlib.Core.List.{List}
 use Prim.Native.Nat.{ℕ, _+_, _-_, _*_, _≤_, _<_}
 use native.Mathlib.Omega.{arith}
-use lib.ListN.{length, getD, drop, drop-of-length-le}
+use lib.ListN.{length, drop, drop-of-length-le}
 use lib.Seq.{sets, length-sets}
 use borrow.Author.Needs.{needs}
 use Rattle.words.specs.Words.{sent}
 use Rattle.directory.specs.declared.Item.{Item}
-use Rattle.directory.specs.Item.{items, none}
+use Rattle.directory.specs.Item.{items}
 use Rattle.directory.specs.Run.{wordsOf}
 use Rattle.directory.proofs.Flat.{items-length}
 use Rattle.directory.proofs.Order.{Narrow, every-narrow}
