@@ -33,7 +33,7 @@ use Rattle.collector.specs.Collector.{heard, lengthWrong, isReadError, f
 abbrev pub errorMisfit : List ℕ → Bool
 errorMisfit reply = not (eqb (length reply) 5) || (ltb (thirdOf reply) 1 || ltb 3 (thirdOf reply))
 
--- ---- by the view of the meter that was asked
+-- ---- over a view: the directory and the most words of the meter that was asked
 
 module _ (v : View) where
   -- a read that a meter of that own address, 1 to 255, answers with data, and the items that it asks for

@@ -31,6 +31,8 @@ pub record Bounds (exact step wh : ℕ) : Type 0 where
   pub above : wh * 360000 ≤ exact
   pub below : exact < (wh + step) * 360000
 
+-- ---- over a view: the directory and the most words that reads go by
+
 module _ (v : View) where
   -- a history with two moments: a new meter and any events, then events with no accepted sample between (the first read is one of these)
   pub record History : Type 0 where

@@ -56,6 +56,8 @@ replyTold Silent = 0 ∷ []
 replyTold (Sent n) = 1 ∷ n ∷ []
 replyTold (Refused reason) = refusedBy (refusalNumber reason)
 
+-- ---- over a view: the directory and the most words that reads go by
+
 module _ (v : View) where
   -- it answers with the error reply of a code, its record as it was
   abbrev pub Errs : ℕ → Meter → List ℕ → List ℕ → Type 0
@@ -112,7 +114,8 @@ module _ (v : View) where
         drop n (boardIn v m frame b .buffer) ≡ drop n b
     pub altered :
         (m : Meter) (frame b : List ℕ) →
-        (boardIn v m frame b .handled .meter ≡ m) ⊎ (Heeds m frame b × Stores m frame × (boardIn v m frame b .handled .meter ≡ storedOf m frame))
+        (boardIn v m frame b .handled .meter ≡ m) ⊎
+        (Heeds m frame b × Stores m frame × (boardIn v m frame b .handled .meter ≡ storedOf m frame))
     pub for-all : (m : Meter) (frame b : List ℕ) (n : ℕ) → addressOf frame ≡ 0 → boardIn v m frame b .handled .reply ≡ Sent n → ⊥
 
   -- STATEMENT: every reply's CRC is right, and its length at most 256
@@ -124,7 +127,9 @@ module _ (v : View) where
 
   -- STATEMENT: what stood in the buffer is never seen: with room, answer, record and reply bytes are the same for any other
   pub record BufferUnseen : Type 0 where
-    pub same : (m : Meter) (frame a b : List ℕ) → 256 ≤ length a → 256 ≤ length b → boardIn v m frame a .handled ≡ boardIn v m frame b .handled
+    pub same :
+        (m : Meter) (frame a b : List ℕ) → 256 ≤ length a → 256 ≤ length b →
+        boardIn v m frame a .handled ≡ boardIn v m frame b .handled
     pub bytes :
         (m : Meter) (frame a b : List ℕ) (n : ℕ) → 256 ≤ length a → 256 ≤ length b → boardIn v m frame a .handled .reply ≡ Sent n →
         take n (boardIn v m frame a .buffer) ≡ take n (boardIn v m frame b .buffer)

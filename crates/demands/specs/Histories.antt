@@ -40,6 +40,8 @@ pub data AllTyped : List Event → Type 0 where
   none : AllTyped []
   more : {x : Event} {xs : List Event} → EventTyped x → AllTyped xs → AllTyped (x ∷ xs)
 
+-- ---- over a view: the directory and the most words that reads go by
+
 module _ (v : View) where
   -- the meter after an event
   abbrev pub afterEvent : Meter → Event → Meter

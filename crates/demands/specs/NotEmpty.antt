@@ -21,6 +21,8 @@ use Rattle.demands.specs.Demand3.{History, Poll, collected}
 abbrev pub frames : List ℕ → List (List ℕ) → List Event
 frames buffer fs = map (λ (bytes : List ℕ). Event.frame bytes buffer) fs
 
+-- ---- over a view: the directory and the most words that reads go by
+
 module _ (v : View) where
   -- the history of a new meter with some events, and some between the two reads
   abbrev pub HistoryOf : ℕ → Ratios → List Event → List Event → Type 0

@@ -21,6 +21,8 @@ use Rattle.demands.specs.RoundTrip.{replyTo}
 abbrev pub requestFor : ℕ → Item → List ℕ
 requestFor address it = sealed ((address ∷ 0x03 ∷ []) ++ word (it .start) ++ word (it .words))
 
+-- ---- over a view: the directory and the most words that reads go by
+
 module _ (v : View) where
   -- STATEMENT: each item is heard and found by its read, which a meter within limits answers with data: it neither refuses nor stays silent
   pub record EveryItemPolled : Type 0 where

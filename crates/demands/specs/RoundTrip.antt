@@ -35,6 +35,8 @@ pub record Meets (m : Meter) (request b : List ℕ) : Type 0 where
   pub room : 256 ≤ length b
   pub own : m .given .address ≡ addressOf request
 
+-- ---- over a view: the directory and the most words that reads go by
+
 module _ (v : View) where
   -- what a meter replies to a request
   abbrev pub replyTo : Meter → List ℕ → List ℕ → List ℕ

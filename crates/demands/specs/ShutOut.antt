@@ -49,6 +49,8 @@ tenWh =
       frequency = 0;
     }
 
+-- ---- over a view: the directory and the most words that reads go by
+
 module _ (v : View) where
   -- some board and collector, whatever they are, as the Wh of an energy that they make of a new meter's events: demand 3 holds of them
   abbrev pub Keeps : ℕ → Ratios → ℕ → (List Event → ℕ) → Type 0
@@ -57,7 +59,9 @@ module _ (v : View) where
   -- our own board and collector: after the events, register and wrap are polled, read and joined
   abbrev pub ours : (address : ℕ) → Ratios → (e : ℕ) → Poll v address (energyCount e) → Poll v address (wrap e) → List Event → ℕ
   ours address r e register wrapped xs =
-      joinedWh r (collected v r (afterAll v (newOf address r .meter) xs) register) (collected v r (afterAll v (newOf address r .meter) xs) wrapped)
+      joinedWh r
+      (collected v r (afterAll v (newOf address r .meter) xs) register)
+      (collected v r (afterAll v (newOf address r .meter) xs) wrapped)
 
   -- a board and collector by which demand 3 holds of +Ea of such a meter
   abbrev pub KeepsBare : (List Event → ℕ) → Type 0

@@ -6,6 +6,7 @@ use Rattle.directory.specs.Bites.{TestsBite}
 pub tests-bite : TestsBite
 unfolding ascends every
 tests-bite = record {
+  passed = refl;
   overlap = refl;
   nothing-filled = refl;
   no-word = refl;

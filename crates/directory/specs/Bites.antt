@@ -1,6 +1,6 @@
 -- Paper 01, "The directory": the tests of a directory, and of a view, bite. Each is computed on what is wrong in one thing alone.
 use mathlib.Core.Path.{_≡_}
-use mathlib.Core.Bool.{false}
+use mathlib.Core.Bool.{true, false}
 use mathlib.Core.List.{[], _∷_}
 use Rattle.directory.specs.declared.Item.{Item}
 use Rattle.directory.specs.Item.{item}
@@ -16,8 +16,9 @@ good = item 0x301 4 2 (voltage L1)
 abbrev early : Item
 early = item 0x303 4 2 (voltage L2)
 
--- STATEMENT: each test rejects them
+-- STATEMENT: the good item passes, alone and with two words at the most; each test rejects what is wrong
 pub record TestsBite : Type 0 where
+  pub passed : passes (record { seen = good ∷ []; most = 2 }) ≡ true
   -- of two items the later starts within the earlier
   pub overlap : ascends 0 (good ∷ early ∷ []) ≡ false
   -- an item fills nothing, and a good one comes after it

@@ -1,20 +1,23 @@
 -- A read is judged by its length, its word number and the run: which of them decides.
-use mathlib.Core.Path.{_≡_, refl, sym, _∙_}
+use mathlib.Core.Path.{_≡_, refl, sym, ap, _∙_}
 use mathlib.Core.Logic.{_↔_, _⊎_, inl, inr}
 use mathlib.Core.Bool.{Bool, true, false, _||_, not, cond, false≢true}
 use mathlib.Core.List.{List}
-use Prim.Native.Nat.{ℕ, _+_, _≤_}
+use Prim.Native.Nat.{ℕ, _+_, _*_, _≤_}
 use native.Mathlib.Omega.{arith}
 use lib.Dec.{T, ltb, eqb}
-use lib.ListN.{length}
+use lib.ListN.{length, take, drop}
 use borrow.Author.Tests.{ltb-false, eqb-true, eqb-false, eq-eqb}
 use Rattle.refusal.specs.declared.ErrorCode.the-variants.{Function, Address, Data}
+use Rattle.directory.specs.declared.Reach.{Reach}
 use Rattle.directory.specs.declared.Span.{Span}
 use Rattle.directory.specs.declared.Span.the-variants.{Items, Error}
+use Rattle.directory.specs.Item.{items}
+use Rattle.directory.specs.Order.{every, narrow}
 use Rattle.directory.specs.Run.{runIn, runItems, wordsOf}
-use Rattle.directory.specs.Views.{View, passes}
+use Rattle.directory.specs.Views.{View, passes, viewOf, Lent}
 use Rattle.directory.proofs.Errors.{no-run, data-sound, run-sound}
-use Rattle.directory.proofs.Views.{passes-ruled}
+use Rattle.directory.proofs.Views.{passes-ruled, passes-room, run-room, run-part, run-narrow}
 use Rattle.directory.proofs.Sends.{run-sends}
 use Rattle.modbus.specs.Frame.{startOf, wordNumber}
 use Rattle.modbus.specs.Read.{numberWrong, readIn, ReadWhen}
@@ -84,4 +87,28 @@ legal-read v good {frame} {first} {count} e =
       most = ltb-false (v .most) (wordNumber frame) (n .1);
       inside = run-sends .inside (v .seen) _ _ first count (passes-ruled v good) (t .2);
       sends = run-sends .sends (v .seen) _ _ first count (passes-ruled v good) (t .2);
+    }
+
+-- ---- over a table that is lent
+
+-- the part of the table that holds the items asked for; they send the words asked, which a reply has room for
+pub record AskedPart (t : List ℕ) (reach : Reach) (frame : List ℕ) (first count : ℕ) : Type 0 where
+  pub inside : 4 * (first + count) ≤ length t
+  pub holds : items (take (4 * count) (drop (4 * first) t)) ≡ runItems (viewOf t reach .seen) first count
+  pub narrow : T (every narrow (items (take (4 * count) (drop (4 * first) t))))
+  pub long : length frame ≡ 8
+  pub sends : wordsOf (items (take (4 * count) (drop (4 * first) t))) ≡ wordNumber frame
+  pub room : 5 + 2 * wordNumber frame ≤ 256
+
+pub asked-part : (t : List ℕ) (reach : Reach) → Lent t reach → {frame : List ℕ} {first count : ℕ} → readIn (viewOf t reach) frame ≡ Items first count → AskedPart t reach frame first count
+asked-part t reach lent {first = first} {count = count} e =
+    let v = viewOf t reach in
+    let l = legal-read v (lent .good) e in
+    record {
+      inside = run-room t reach lent first count (l .inside);
+      holds = run-part t reach lent first count (l .inside);
+      narrow = run-narrow t reach lent first count (l .inside);
+      long = l .long;
+      sends = ap wordsOf (run-part t reach lent first count (l .inside)) ∙ l .sends;
+      room = omega (arith, l .most, passes-room v (lent .good));
     }

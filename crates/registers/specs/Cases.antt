@@ -39,8 +39,8 @@ pub record Typed (m : Meter) : Type 0 where
   pub latest : SampleTyped (m .latest)
   pub setup : SetupTyped (m .setup)
 
--- STATEMENT: a quantity is one of its kind's values, and what a meter within limits shows of it fits its bytes; each item of a directory that
--- passes the tests shows a quantity, and has room for it
+-- STATEMENT: a quantity is one of its kind's values, and what a meter within limits shows of it fits its bytes; each item of a directory
+-- that passes the tests shows a quantity, and has room for it
 pub record EveryCase : Type 0 where
   pub case : (m : Meter) → Typed m → meterOk m ≡ true → (q : ℕ) → 1 ≤ widthOf q → q % 64 < length (getD (valuesOf m) (q / 64) [])
   pub fits : (m : Meter) → Typed m → meterOk m ≡ true → (q : ℕ) → shownOf m q < 256 ^ widthOf q

@@ -5,11 +5,9 @@ use Rattle.directory.specs.declared.Item.{Item}
 use Rattle.directory.specs.declared.Span.{Span}
 use Rattle.directory.specs.declared.Span.the-variants.{Items, Error}
 use Rattle.directory.specs.Item.{items}
-use Rattle.directory.specs.Run.{runItems, wordsOf}
 use Rattle.directory.specs.Views.{View, viewOf}
-use Rattle.directory.proofs.Views.{run-room, run-part, run-narrow}
 use Rattle.modbus.specs.Read.{readIn}
-use Rattle.modbus.proofs.Judged.{LegalRead, legal-read}
+use Rattle.modbus.proofs.Judged.{AskedPart, asked-part}
 use Rattle.reading.specs.declared.Answer.{Answer}
 use Rattle.collector.specs.Collector.{onItems, replyOf}
 use borrow.Author.Needs.{needs}
@@ -47,28 +45,21 @@ start c = c .before .before .before .before .before .before .before
 found : (c : tie.After-known-told) → readIn (view (start c)) (start c .args .request .now) ≡ Items (c .before .span .given .0 .0) (c .before .span .given .0 .1 .0)
 found c = let j = c .before .before .before .read-in .ensures in cc
 
-legal : (c : tie.After-known-told) → LegalRead (view (start c)) (start c .args .request .now) (c .before .span .given .0 .0) (c .before .span .given .0 .1 .0)
-legal c = legal-read (view (start c)) (start c .pre .good) (found c)
+asked : (c : tie.After-known-told) → AskedPart (start c .args .t .now) (start c .args .reach) (start c .args .request .now) (c .before .span .given .0 .0) (c .before .span .given .0 .1 .0)
+asked c = asked-part (start c .args .t .now) (start c .args .reach) (start c .pre) (found c)
 
 part-requires : tie.Need-part-requires
-part-requires c κs = run-room (start c .args .t .now) (start c .args .reach) (start c .pre) _ _ (legal c .inside)
-
--- the part that is lent holds the items asked for
-asked : (c : tie.After-part) → items (c .part .result .now) ≡ runItems (view (start (c .before)) .seen) (c .before .before .span .given .0 .0) (c .before .before .span .given .0 .1 .0)
-asked c =
-    let s = start (c .before) in
-    ap items (c .part .ensures) ∙ run-part (s .args .t .now) (s .args .reach) (s .pre) _ _ (legal (c .before) .inside)
+part-requires c κs = asked c .inside
 
 replied-requires : tie.Need-replied-requires
 replied-requires c κs =
-    let s = start (c .before) in
-    let l = legal (c .before) in
-    (rw (c .part .ensures) (run-narrow (s .args .t .now) (s .args .reach) (s .pre) _ _ (l .inside)), (l .long, ap wordsOf (asked c) ∙ l .sends))
+    let a = asked (c .before) in
+    rw (c .part .ensures) (a .narrow, (a .long, a .sends))
 
 returns-2 : tie.Need-returns-2
 returns-2 c =
     let s = start (c .before .before) in
-    c .replied .ensures ∙ ap (going s) (asked (c .before)) ∙ ap (λ (span : Span). onItems (view s) span (going s)) (sym (found (c .before .before)))
+    c .replied .ensures ∙ ap (going s) (ap items (c .before .part .ensures) ∙ asked (c .before .before) .holds) ∙ ap (λ (span : Span). onItems (view s) span (going s)) (sym (found (c .before .before)))
 
 pub along-spec : {M : Type 1} → statement M
 along-spec =

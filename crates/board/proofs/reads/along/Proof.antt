@@ -2,18 +2,15 @@
 use mathlib.Core.Path.{_≡_, ap, _∙_}
 use mathlib.Core.List.{List}
 use Prim.Native.Nat.{ℕ}
-use native.Mathlib.Omega.{arith}
 use lib.ListN.{length}
 use lib.Seq.{sets}
 use Rattle.directory.specs.declared.Span.{Span}
 use Rattle.directory.specs.declared.Span.the-variants.{Items, Error}
 use Rattle.directory.specs.declared.Item.{Item}
 use Rattle.directory.specs.Item.{items}
-use Rattle.directory.specs.Run.{runItems, wordsOf}
 use Rattle.directory.specs.Views.{View, viewOf}
-use Rattle.directory.proofs.Views.{passes-room, run-room, run-part, run-narrow}
 use Rattle.modbus.specs.Read.{readIn}
-use Rattle.modbus.proofs.Judged.{LegalRead, legal-read}
+use Rattle.modbus.proofs.Judged.{AskedPart, asked-part}
 use Rattle.registers.specs.Shown.{shownOf}
 use Rattle.board.specs.Reads.{itemsSent, dataReply, readBytes, readReply}
 use borrow.Author.Needs.{needs}
@@ -49,24 +46,18 @@ start c = c .before .before .before .before .before .before .before
 found : (c : tie.After-known-told2) → readIn (view (start c)) (start c .args .frame .now) ≡ Items (c .before .first .given .0 .0) (c .before .first .given .0 .1 .0)
 found c = let j = c .before .before .before .read-in .ensures in cc
 
-legal : (c : tie.After-known-told2) → LegalRead (view (start c)) (start c .args .frame .now) (c .before .first .given .0 .0) (c .before .first .given .0 .1 .0)
-legal c = legal-read (view (start c)) (start c .pre .0 .good) (found c)
+asked : (c : tie.After-known-told2) → AskedPart (start c .args .t .now) (start c .args .reach) (start c .args .frame .now) (c .before .first .given .0 .0) (c .before .first .given .0 .1 .0)
+asked c = asked-part (start c .args .t .now) (start c .args .reach) (start c .pre .0) (found c)
 
 part-requires : tie.Need-part-requires
-part-requires c κs = run-room (start c .args .t .now) (start c .args .reach) (start c .pre .0) _ _ (legal c .inside)
-
--- the part that is lent holds the items asked for
-asked : (c : tie.After-part) → items (c .part .result .now) ≡ runItems (view (start (c .before)) .seen) (c .before .before .first .given .0 .0) (c .before .before .first .given .0 .1 .0)
-asked c =
-    let s = start (c .before) in
-    ap items (c .part .ensures) ∙ run-part (s .args .t .now) (s .args .reach) (s .pre .0) _ _ (legal (c .before) .inside)
+part-requires c κs = asked c .inside
 
 put-data-requires : tie.Need-put-data-requires
 put-data-requires c κs =
     let p = c .before in
     let s = start (p .before) in
-    let l = legal (p .before) in
-    (rw (p .part .ensures) (run-narrow (s .args .t .now) (s .args .reach) (s .pre .0) _ _ (l .inside)), (s .pre .1 .0, ((l .long, ap wordsOf (asked p) ∙ l .sends), (omega (arith, l .most, passes-room (view s) (s .pre .0 .good)), s .pre .1 .1 .1))))
+    let a = asked (p .before) in
+    rw (p .part .ensures) (a .narrow, (s .pre .1 .0, ((a .long, a .sends), (a .room, s .pre .1 .1 .1))))
 
 same-length : tie.Need-same-length
 same-length c = search needs
@@ -88,7 +79,7 @@ returns-2 c =
     let s = start (p .before) in
     let g = p .before .before .first .given .0 in
     let e = c .before .before .put-data .ensures in
-    let same = ap (λ (its : List Item). dataReply (s .args .frame .now) (itemsSent (shownOf (s .args .m)) its)) (asked p) in
+    let same = ap (λ (its : List Item). dataReply (s .args .frame .now) (itemsSent (shownOf (s .args .m)) its)) (ap items (p .part .ensures) ∙ asked (p .before) .holds) in
     replied (view s) (shownOf (s .args .m)) (s .args .frame .now) (s .args .buffer .now) (Items (g .0) (g .1 .0)) (found (p .before)) (e .0 ∙ ap length same, e .1 ∙ ap (sets (s .args .buffer .now) 0) same)
 
 pub along-spec : {M : Type 1} → statement M
