@@ -22,7 +22,7 @@ use Rattle.meter.specs.declared.energies.Energy.{Energy}
 use Rattle.meter.specs.declared.given.Given.{Given}
 use Rattle.meter.specs.declared.Meter.{Meter}
 use Rattle.meter.specs.Energies.{noEnergy, valueOf}
-use Rattle.meter.specs.Meters.{meterT, meterOk, newOf, energiesOf, energyAt}
+use Rattle.meter.specs.Meters.{givenOf, meterT, meterOk, newOf, energiesOf, energyAt}
 use Rattle.meter.proofs.Parts.{energy-rest, own-ratios}
 use Rattle.meter.proofs.Sums.{new-zero}
 use Rattle.meter.proofs.Answers.{made-within, new-blank}
@@ -81,7 +81,7 @@ module _ (v : View) (good : T (passes v)) where
 
     record Moment (m : Meter) : Type 0 where
       pub within : meterOk m ≡ true
-      pub given : m .given ≡ record { address = h .address; ratios = h .ratios }
+      pub given : m .given ≡ givenOf (h .address) (h .ratios)
       pub value : valueOf (energyAt e m) ≡ exactAt v e h
 
     then : Moment (sooner v h)

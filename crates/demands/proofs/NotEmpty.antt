@@ -15,7 +15,7 @@ use Rattle.meter.specs.declared.Answer.the-variants.{Accepted}
 use Rattle.meter.specs.declared.given.Given.{Given}
 use Rattle.meter.specs.declared.Meter.{Meter}
 use Rattle.meter.specs.Samples.{noSample}
-use Rattle.meter.specs.Meters.{newOf}
+use Rattle.meter.specs.Meters.{givenOf, newOf}
 use Rattle.meter.proofs.Answers.{made-within, new-blank}
 use Rattle.demands.specs.Meaning.{meaningOf}
 use Rattle.demands.specs.RoundTrip.{replyTo, Meets}
@@ -66,7 +66,7 @@ module _ (v : View) (good : T (passes v)) where
   polls address r xs made typed q p =
       let first = newOf address r .meter in
       let m = afterAll v first xs in
-      let same : m .given ≡ record { address = address; ratios = r } = after-events v good .given first xs ∙ ap (λ (x : Meter). x .given) (new-blank address r) in
+      let same : m .given ≡ givenOf address r = after-events v good .given first xs ∙ ap (λ (x : Meter). x .given) (new-blank address r) in
       let own = ap (λ (g : Given). g .address) same in
       let meets : Meets m (p .request) (p .buffer) = record { within = after-events v good .within first xs (made-within address r made); room = p .room; own = own ∙ sym (p .own) } in
       ap (λ (g : Given). collectorIn v (p .request) (replyTo v m (p .request) (p .buffer)) (g .ratios) (p .index)) (sym same)

@@ -32,15 +32,13 @@ givenOk g = leb 1 (g .address) && ratiosOk (g .ratios)
 unfoldable pub meterOk : Meter → Bool
 meterOk m = givenOk (m .given) && countersOk (m .counters) && sampleOk (meterT m) (m .latest) && setupOk (m .setup)
 
+-- what a new meter is given
+abbrev pub givenOf : ℕ → Ratios → Given
+givenOf address ratios = record { address = address; ratios = ratios }
+
 -- counters and remainders 0, setup words 0, sample 0 except sequence 1
 abbrev pub blankOf : ℕ → Ratios → Meter
-blankOf address ratios =
-    record {
-      given = record { address = address; ratios = ratios };
-      counters = noCounters;
-      latest = noSample;
-      setup = noSetup;
-    }
+blankOf address ratios = record { given = givenOf address ratios; counters = noCounters; latest = noSample; setup = noSetup }
 
 -- the four energies, in the paper's order: +Ea, -Ea, +Er, -Er
 abbrev pub energiesOf : Meter → List Energy

@@ -21,7 +21,7 @@ numberWrong most n = ltb n 1 || ltb most n
 -- step 4: how a read is judged over a view
 unfoldable pub readIn : View → List ℕ → Span
 readIn v frame =
-    -- length not 8, or word number outside 1 to 120: error 03
+    -- length not 8, or word number outside 1 to the most (120): error 03
     cond (not (eqb (length frame) 8) || numberWrong (v .most) (wordNumber frame)) (Error Data)
     -- start, and the run item by item: error 02, or 03 for half an L; else data
     (runIn (v .seen) (startOf frame) (wordNumber frame))
