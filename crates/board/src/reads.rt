@@ -72,7 +72,7 @@ fn put_items(asked: &[u16], m: Meter, buffer: &mut [u8]) -> usize
     ensures { λ r. ⌜ r ≡ 3 + 2 * wordsOf (items (now (asked .entry))) ⌝ }
     ensures { λ _. ⌜ now (buffer .exit) ≡ sets (now (buffer .entry)) 3 (itemsSent (shownOf m) (items (now (asked .entry)))) ⌝ }
 {
-    let count = directory::count(asked);
+    let count = asked.len() / directory::NUMBERS;
     let mut at = modbus::DATA_HEAD;
     let mut i: usize = 0;
     while i < count {

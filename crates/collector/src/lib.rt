@@ -131,7 +131,7 @@ fn item(asked: &[u16], reply: &[u8], tenths: u32, index: usize) -> Answer
     requires { ⌜ 3 + 2 * wordsOf (items (now asked)) ≤ length (now reply) ⌝ }
     ensures { λ r. ⌜ r ≡ itemOf tenths (items (now (asked .entry))) (now (reply .entry)) index ⌝ }
 {
-    if directory::count(asked) <= index {
+    if asked.len() / directory::NUMBERS <= index {
         return Answer::Refused(Refusal::IndexPastItems);
     }
     let at = place(asked, index);

@@ -15,19 +15,18 @@ use Rattle.refusal.specs.declared.ErrorCode.the-variants.{Function, Address, Da
 use Rattle.refusal.specs.Numbers.{errorNumber, refusedBy}
 use Rattle.refusal.proofs.Distinct.{one-reason-each, caseIn, numberIn}
 use Rattle.crc.specs.Crc.{intact}
-use Rattle.directory.specs.Views.{View, passes, own}
-use Rattle.directory.proofs.Rules.{own-passes}
+use Rattle.directory.specs.Views.{View, passes}
 use Rattle.modbus.specs.Frame.{silence, isRead, isWrite}
 use Rattle.modbus.specs.Replies.{errorReply}
 use Rattle.modbus.proofs.Judged.{read-when}
 use Rattle.meter.specs.declared.Meter.{Meter}
 use Rattle.meter.specs.Meters.{meterOk}
-use Rattle.board.specs.declared.Handled.{Handled}
 use Rattle.board.specs.declared.Reply.{Reply}
 use Rattle.board.specs.declared.Reply.the-variants.{Silent, Sent, Refused}
 use Rattle.store.specs.Writes.{storedOf, verdictTold}
-use Rattle.board.specs.Board.{Outcome, boardIn, boardOf}
+use Rattle.board.specs.Board.{Outcome, boardIn}
 use Rattle.demands.specs.Frames.{Heeds, Answers, Errs, ReadErrs, WriteErrs, Quiet, Stores, replyTold, Comes, Rows, ExactlyWhen, Obeys, Untouched, RepliesSealed, BufferUnseen}
+use Rattle.board.proofs.Lengths.{board-short}
 use Rattle.board.proofs.Cases.{board-1, board-2, board-silent}
 use Rattle.store.proofs.Verdicts.{write-when, write-within}
 use Rattle.demands.proofs.Gives.{Gives, Case, case}
@@ -255,7 +254,7 @@ module _ (v : View) (good : T (passes v)) where
   pub replies-sealed : RepliesSealed v
   replies-sealed =
       record {
-        long = λ m frame b n h. let s = sent m frame b (case v m frame b) n h in omega (arith, gives-long v good m frame (s .bytes) (s .next) (s .gives), s .long);
+        long = λ m frame b n h. board-short v good m frame b n h;
         whole = λ m frame b n h. let s = sent m frame b (case v m frame b) n h in ap intact (front m frame b n s) ∙ gives-whole v good m frame (s .bytes) (s .next) (s .gives);
       }
 
@@ -301,7 +300,3 @@ module _ (v : View) (good : T (passes v)) where
         same = λ m frame a b ra rb. same m frame a b ra rb (case v m frame a);
         bytes = λ m frame a b n ra rb. bytes-same m frame a b ra rb n;
       }
-
--- a program's buffer has room for the reply that `board::handle` answers with
-pub reply-long : (m : Meter) (frame b : List ℕ) {h : Handled} {n : ℕ} → h ≡ boardOf m frame b .handled → h .reply ≡ Sent n → n ≤ 256
-reply-long m frame b is e = replies-sealed own own-passes .long m frame b _ (ap (λ (x : Handled). x .reply) (sym is) ∙ e)

@@ -4,10 +4,9 @@ use mathlib.Core.Path.{_≡_, refl, sym, ap, ap₂, _∙_}
 use mathlib.Core.Bool.{true, false}
 use mathlib.Core.List.{List, [], _∷_}
 use Prim.Native.Nat.{ℕ, _+_, _*_, _≤_}
-use native.Mathlib.Nat.{min-le-left}
 use native.Mathlib.Omega.{arith}
 use lib.Dec.{T}
-use lib.ListN.{length, getD, take, drop, length-take, List·getD-append}
+use lib.ListN.{length, getD, take, drop, List·getD-append}
 use lib.Seq.{sets, take-at, drop-at, getD-take, length-take-le}
 use borrow.Author.Tests.{eq-eqb, ne-eqb, le-ltb}
 use Rattle.refusal.specs.declared.ErrorCode.{ErrorCode}
@@ -15,15 +14,13 @@ use Rattle.refusal.specs.declared.ErrorCode.the-variants.{Function}
 use Rattle.refusal.specs.Numbers.{errorNumber}
 use Rattle.refusal.proofs.Distinct.{one-reason-each}
 use Rattle.crc.specs.Crc.{crcOf, onLine, sealed, intact}
-use Rattle.crc.proofs.Laws.{length-sealed, intact-is-sealed}
+use Rattle.crc.proofs.Laws.{intact-is-sealed}
 use Rattle.directory.specs.declared.Span.the-variants.{Error}
 use Rattle.directory.specs.Run.{runItems}
 use Rattle.directory.specs.Views.{View, passes}
-use Rattle.directory.proofs.Views.{passes-room}
 use Rattle.modbus.specs.Frame.{addressOf, functionOf, wordNumber, isRead, isWrite}
 use Rattle.modbus.specs.Replies.{errorReply, echoReply}
 use Rattle.modbus.proofs.Frames.{shaped-length}
-use Rattle.modbus.proofs.Judged.{legal-read}
 use Rattle.modbus.proofs.Stores.{sets-front}
 use Rattle.meter.specs.declared.Meter.{Meter}
 use Rattle.registers.specs.Shown.{shownOf}
@@ -31,7 +28,7 @@ use Rattle.board.specs.declared.Reply.the-variants.{Sent}
 use Rattle.board.specs.Reads.{itemsSent, dataReply, readBytes}
 use Rattle.board.specs.Board.{Outcome, silentOf, sentOf, replyOf, obeyedIn, boardIn}
 use Rattle.demands.specs.Frames.{Heeds, Answers, ReadErrs, WriteErrs}
-use Rattle.board.proofs.Sent.{length-items}
+use Rattle.board.proofs.Lengths.{echo-long, data-long}
 use Rattle.board.proofs.Cases.{board-obeys, obeys-other, obeys-read, obeys-write}
 use Rattle.store.specs.declared.Verdict.the-variants.{Wrong}
 use Rattle.store.proofs.Verdicts.{write-when}
@@ -115,15 +112,9 @@ module _ (v : View) (good : T (passes v)) where
   pub gives-long : (m : Meter) (frame bytes : List ℕ) (n : Meter) → Gives v m frame bytes n → length bytes ≤ 256
   gives-long m frame bytes n (other r w e k) = rw e (omega arith)
   gives-long m frame bytes n (misread code r s e k) = rw e (omega arith)
-  gives-long m frame bytes n (shows first count r s e k) =
-      let a = legal-read v good s in
-      let its = runItems (v .seen) first count in
-      let bs = addressOf frame ∷ functionOf frame ∷ 2 * wordNumber frame ∷ itemsSent (shownOf m) its in
-      rw e (omega (arith, length-sealed bs, length-items (shownOf m) its, a .sends, a .most, passes-room v good))
+  gives-long m frame bytes n (shows first count r s e k) = rw e (data-long v good (shownOf m) frame first count s)
   gives-long m frame bytes n (miswritten code w j e k) = rw e (omega arith)
-  gives-long m frame bytes n (stores w j e k) =
-      let six : length (take 6 frame) ≤ 6 = rw (length-take 6 frame) (min-le-left 6 (length frame)) in
-      rw e (omega (arith, length-sealed (take 6 frame)))
+  gives-long m frame bytes n (stores w j e k) = rw e (echo-long frame)
 
   gives-sealed : (m : Meter) (frame bytes : List ℕ) (n : Meter) → Gives v m frame bytes n → Sealed bytes
   gives-sealed m frame bytes n (other r w e k) = error-sealed frame Function bytes e

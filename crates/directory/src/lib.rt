@@ -33,6 +33,9 @@ impl Item {
     }
 }
 
+// The numbers of a table that are one item.
+pub const NUMBERS: usize = 4;
+
 // How many items paper 01's table has.
 pub const ITEMS: usize = 142;
 
@@ -135,20 +138,13 @@ fn find_in(t: &[u16], n: usize, address: u16) -> Found
     Found::Nothing
 }
 
-// How many items a table holds.
-pub fn count(t: &[u16]) -> usize
-    ensures { λ r. ⌜ r ≡ length (items (now (t .entry))) ⌝ }
-{
-    t.len() / 4
-}
-
 // The part of a table that holds a run of its items.
 pub fn part(t: &[u16], first: usize, count: usize) -> &[u16]
     requires { ⌜ 4 * (first + count) ≤ length (now t) ⌝ }
     ensures { λ r. ⌜ now r ≡ take (4 * count) (drop (4 * first) (now (t .entry))) ⌝ }
 {
-    let from = 4 * first;
-    let to = from + 4 * count;
+    let from = NUMBERS * first;
+    let to = from + NUMBERS * count;
     &t[from..to]
 }
 
@@ -157,7 +153,7 @@ pub fn item_at(t: &[u16], i: usize) -> Item
     requires { ⌜ 4 * i + 4 ≤ length (now t) ⌝ }
     ensures { λ r. ⌜ r ≡ getD (items (now (t .entry))) i none ⌝ }
 {
-    let at = 4 * i;
+    let at = NUMBERS * i;
     Item {
         start: t[at],
         fills: t[at + 1],

@@ -8,7 +8,7 @@ use lib.ListN.{length}
 use lib.Seq.{length-take-le}
 use Rattle.lines.specs.declared.Line.the-variants.{Frame, Bad}
 use Rattle.lines.specs.Lines.{bytesOf, lineOk, lineOf}
-use Rattle.demands.proofs.Frames.{reply-long}
+use Rattle.board.proofs.Lengths.{reply-long}
 use borrow.Author.Needs.{needs}
 use Rattle.bench.proofs.answer.Statement.{statement}
 use Rattle.bench.proofs.answer.Tie as tie

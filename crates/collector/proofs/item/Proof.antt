@@ -19,16 +19,13 @@ use Rattle.collector.proofs.item.Tie as tie
 abbrev its : tie.Start → List Item
 its s = items (s .args .asked .now)
 
-count-requires : tie.Need-count-requires
-count-requires c κs = search needs
-
 returns : tie.Need-returns
 returns c =
-    let s = c .before .before .before .before in
-    item-past (s .args .tenths) (its s) (s .args .reply .now) (s .args .index) (rw (c .before .count .ensures) at (c .if1 .taken))
+    let s = c .before .before .before in
+    item-past (s .args .tenths) (its s) (s .args .reply .now) (s .args .index) (omega (arith, items-length (s .args .asked .now)))
 
-below : (e : tie.Else1) → e .before .before .before .before .args .index < length (its (e .before .before .before .before))
-below e = rw (e .before .count .ensures) at (e .if1 .left)
+below : (e : tie.Else1) → e .before .before .before .args .index < length (its (e .before .before .before))
+below e = omega (arith, items-length (e .before .before .before .args .asked .now))
 
 -- what is known of the item when it is found
 record Known (its : List Item) (reply : List ℕ) (index at : ℕ) (it : Item) : Type 0 where
@@ -37,7 +34,7 @@ record Known (its : List Item) (reply : List ℕ) (index at : ℕ) (it : Item) :
   pub room : at + 2 * it .words ≤ length reply
 
 abbrev start : tie.After-item-at → tie.Start
-start r = r .before .before .before .before .before .before
+start r = r .before .before .before .before .before
 
 known : (r : tie.After-item-at) → Known (its (start r)) (start r .args .reply .now) (start r .args .index) (r .before .place .result) (r .item-at .result)
 known r =
@@ -51,11 +48,11 @@ known r =
     }
 
 place-requires : tie.Need-place-requires
-place-requires c κs = (c .before .before .before .before .pre .0, omega (arith, below c))
+place-requires c κs = (c .before .before .before .pre .0, omega (arith, below c))
 
 item-at-requires : tie.Need-item-at-requires
 item-at-requires c κs =
-    let s = c .before .before .before .before .before in
+    let s = c .before .before .before .before in
     omega (arith, items-length (s .args .asked .now), below (c .before))
 
 value-at-requires : tie.Need-value-at-requires
@@ -101,7 +98,6 @@ pub item-spec : {M : Type 1} → statement M
 item-spec =
     tie.close
     (tie.spec
-    count-requires
     returns
     place-requires
     item-at-requires

@@ -28,9 +28,6 @@ Inv-loop asked m buffer₀ count at₀ i₀ buffer at i =
 abbrev μ-loop : tie.MeasureT-loop
 μ-loop asked m buffer₀ count at₀ i₀ buffer at i = count - i
 
-count-requires : tie.Need-count-requires Inv-loop μ-loop
-count-requires c κs = search needs
-
 loop-holds : tie.Need-loop-holds Inv-loop μ-loop
 loop-holds c = (omega arith, refl, refl, refl)
 
@@ -38,14 +35,14 @@ loop-holds c = (omega arith, refl, refl, refl)
 abbrev its : tie.Start Inv-loop μ-loop → List Item
 its s = items (s .args .asked .now)
 
-below : (c : tie.In-loop Inv-loop μ-loop) → c .before .loop .i < length (its (c .before .before .before .before .before))
-below c = rw (c .before .before .count .ensures) at (c .loop-test .taken)
+below : (c : tie.In-loop Inv-loop μ-loop) → c .before .loop .i < length (its (c .before .before .before .before))
+below c = omega (arith, items-length (c .before .before .before .before .args .asked .now))
 
 item-at-requires : tie.Need-item-at-requires Inv-loop μ-loop
-item-at-requires c κs = omega (arith, below c, items-length (c .before .before .before .before .before .args .asked .now))
+item-at-requires c κs = omega (arith, below c, items-length (c .before .before .before .before .args .asked .now))
 
 abbrev start : tie.After-item-at Inv-loop μ-loop → tie.Start Inv-loop μ-loop
-start r = r .before .before .before .before .before .before
+start r = r .before .before .before .before .before
 
 narrow : (r : tie.After-item-at Inv-loop μ-loop) → Narrow (r .item-at .result)
 narrow r = rw (r .item-at .ensures) (every-narrow (its (start r)) (start r .pre .0) (r .before .before .loop .i) (below (r .before)))
@@ -60,7 +57,7 @@ cast-put : tie.Need-cast-put Inv-loop μ-loop
 cast-put c = search needs
 
 shown-requires : tie.Need-shown-requires Inv-loop μ-loop
-shown-requires c κs = c .before .before .before .before .before .before .before .before .pre .1 .0
+shown-requires c κs = c .before .before .before .before .before .before .before .pre .1 .0
 
 put-requires : tie.Need-put-requires Inv-loop μ-loop
 put-requires c κs =
@@ -103,8 +100,8 @@ returns : tie.Need-returns Inv-loop μ-loop
 unfolding itemsSent wordsOf
 returns c =
     let l = c .before .loop in
-    let s = c .before .before .before .before .before in
-    let none-left = drop-of-length-le (its s) {i = l .i} (rw (c .before .before .count .ensures) at (c .loop-test .left)) in
+    let s = c .before .before .before .before in
+    let none-left = drop-of-length-le (its s) {i = l .i} (omega (arith, items-length (s .args .asked .now))) in
     (omega (arith, l .inv .2, ap wordsOf none-left), sym (ap (λ (x : List Item). sets (l .buffer) (l .at) (itemsSent (shownOf (s .args .m)) x)) none-left) ∙ l .inv .3)
 
 pub put-items-spec : {M : Type 1} → statement M
@@ -113,7 +110,6 @@ put-items-spec =
     (tie.spec
     Inv-loop
     μ-loop
-    count-requires
     loop-holds
     item-at-requires
     cast-put

@@ -4,7 +4,7 @@ use native.Mathlib.Omega.{arith}
 use Prim.Native.Nat.{_≤_}
 use lib.Seq.{length-take-le}
 use Rattle.board.specs.declared.Reply.the-variants.{Sent}
-use Rattle.demands.proofs.Frames.{reply-long}
+use Rattle.board.proofs.Lengths.{reply-long}
 use borrow.Author.Needs.{needs}
 use Rattle.cost.proofs.readings.collected.Statement.{statement}
 use Rattle.cost.proofs.readings.collected.Tie as tie

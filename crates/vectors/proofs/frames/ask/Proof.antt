@@ -4,7 +4,7 @@ use Prim.Native.Nat.{_≤_}
 use native.Mathlib.Omega.{arith}
 use lib.Seq.{length-take-le}
 use Rattle.board.specs.declared.Reply.the-variants.{Sent}
-use Rattle.demands.proofs.Frames.{reply-long}
+use Rattle.board.proofs.Lengths.{reply-long}
 use borrow.Author.Needs.{needs}
 use Rattle.vectors.proofs.frames.ask.Statement.{statement}
 use Rattle.vectors.proofs.frames.ask.Tie as tie
