@@ -68,13 +68,6 @@ pub enum Span {
     Error(ErrorCode),
 }
 
-// The index in the meter's directory of the item that starts at an address.
-pub fn find(address: u16) -> Found
-    ensures { λ r. ⌜ r ≡ findIn directory address 0 ⌝ }
-{
-    find_in(&table::TABLE, ITEMS, address)
-}
-
 // The run along the meter's directory.
 pub fn run(start: u16, words: u16) -> Span
     ensures { λ r. ⌜ r ≡ runIn directory start words ⌝ }

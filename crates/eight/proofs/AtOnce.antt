@@ -89,19 +89,22 @@ parts x p =
     ∙ xor-mod (bitXor r (run m r)) (run m p) 16
 
 -- f is 64 shifts of g on numbers of n bits, if it is so at each power of two
-as-shifts : (f g : Linear) (n : ℕ) → alike f (on (times 64) g) n ≡ true → (x : ℕ) → x < 2 ^ n → run f x ≡ shifts 64 (run g x)
-as-shifts f g n t x h = by-bits f (on (times 64) g) n t x h ∙ sym (shifts-is 64 (run g x))
+abbrev shifted : Linear → ℕ → ℕ
+shifted g x = shifts 64 (run g x)
+
+as-shifts : (f g : Linear) (n : ℕ) → alike (run f) (shifted g) n ≡ true → (x : ℕ) → x < 2 ^ n → run f x ≡ shifted g x
+as-shifts f g n = by-bits (run f) (shifted g) (run-xor f) (λ a b. ap (shifts 64) (run-xor g a b) ∙ shifts-xor 64 (run g a) (run g b)) n
 
 both-parts : (x : ℕ) → x < 2 ^ 64 → run (xor even (on odd parity)) x ≡ shifts 64 x
-unfolding alike times once even odd
+unfolding alike shift shifts even odd
 both-parts = as-shifts (xor even (on odd parity)) it 64 refl
 
 even-moves : (x : ℕ) → x < 2 ^ 64 → run even (run spread (run folded x)) ≡ shifts 64 (run even x)
-unfolding alike times once even
+unfolding alike shift shifts even
 even-moves = as-shifts (on even (on spread folded)) even 64 refl
 
 odd-stays : (d : ℕ) → d < 2 → run odd d ≡ shifts 64 (run odd d)
-unfolding alike times once odd
+unfolding alike shift shifts odd
 odd-stays = as-shifts odd odd 1 refl
 
 -- a turn of the code is 64 shifts: the remainder and the parity of the CRC, each by itself

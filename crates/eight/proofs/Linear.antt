@@ -1,5 +1,5 @@
 -- What shifts, masks and exclusive-ors make of an exclusive-or is the exclusive-or of what they make of its two sides, for each of them keeps
--- to the bits. So two such makings are equal if they are equal at each power of two, and that antt computes.
+-- to the bits. Two functions that do so are equal if they are equal at each power of two, and that antt computes.
 use mathlib.Core.Path.{_≡_, refl, sym, ap, ap₂, _∙_}
 use mathlib.Core.Bool.{Bool, true, false, _&&_, and-eq-true-iff}
 use Prim.Native.Nat.{ℕ, zero, suc, _-_, _*_, _/_, _%_, _^_, _≤_, _<_}
@@ -55,30 +55,31 @@ run-xor (low k f) a b = rw (run-xor f a b) (xor-mod _ _ k)
 run-xor (xor f g) a b = rw (run-xor f a b, run-xor g a b) (xor-swap (run f a) (run f b) (run g a) (run g b))
 run-xor (on f g) a b = rw (run-xor g a b) (run-xor f _ _)
 
-run-zero : (f : Linear) → run f 0 ≡ 0
-run-zero f = run-xor f 0 0 ∙ xor-self (run f 0)
+-- what it makes of an exclusive-or is the exclusive-or of what it makes of its two sides
+abbrev pub Adds : (ℕ → ℕ) → Type 0
+Adds f = (a b : ℕ) → f (bitXor a b) ≡ bitXor (f a) (f b)
 
 -- both give the same at each of the n lowest powers of two
-unfoldable pub alike : Linear → Linear → ℕ → Bool
+unfoldable pub alike : (ℕ → ℕ) → (ℕ → ℕ) → ℕ → Bool
 alike f g zero = true
-alike f g (suc n) = eqb (run f (2 ^ n)) (run g (2 ^ n)) && alike f g n
+alike f g (suc n) = eqb (f (2 ^ n)) (g (2 ^ n)) && alike f g n
 
 -- and so at each number of n bits
-pub by-bits : (f g : Linear) (n : ℕ) → alike f g n ≡ true → (x : ℕ) → x < 2 ^ n → run f x ≡ run g x
+pub by-bits : (f g : ℕ → ℕ) → Adds f → Adds g → (n : ℕ) → alike f g n ≡ true → (x : ℕ) → x < 2 ^ n → f x ≡ g x
 unfolding alike
-by-bits f g zero t x h =
+by-bits f g af ag zero t x h =
     let e : x ≡ 0 = omega arith in
-    rw (e, run-zero f, run-zero g)
-by-bits f g (suc n) t x h = cases (by-bits f g n (both .1)) (leb (2 ^ n) x) refl
+    rw (e, af 0 0 ∙ xor-self (f 0), ag 0 0 ∙ xor-self (g 0))
+by-bits f g af ag (suc n) t x h = cases (by-bits f g af ag n (both .1)) (leb (2 ^ n) x) refl
   where
-    both : (eqb (run f (2 ^ n)) (run g (2 ^ n)) ≡ true) × (alike f g n ≡ true)
-    both = and-eq-true-iff (eqb (run f (2 ^ n)) (run g (2 ^ n))) (alike f g n) .0 t
+    both : (eqb (f (2 ^ n)) (g (2 ^ n)) ≡ true) × (alike f g n ≡ true)
+    both = and-eq-true-iff (eqb (f (2 ^ n)) (g (2 ^ n))) (alike f g n) .0 t
 
-    cases : ((y : ℕ) → y < 2 ^ n → run f y ≡ run g y) → (b : Bool) → leb (2 ^ n) x ≡ b → run f x ≡ run g x
+    cases : ((y : ℕ) → y < 2 ^ n → f y ≡ g y) → (b : Bool) → leb (2 ^ n) x ≡ b → f x ≡ g x
     cases ih false e = ih x (leb-false (2 ^ n) x e)
     cases ih true e =
         let low = x - 2 ^ n in
         let at : 2 ^ n ≤ x = leb-true (2 ^ n) x e in
         let fits : low < 2 ^ n = omega (arith, pow-suc 2 n) in
         let cut : x ≡ bitXor (2 ^ n) low = omega (arith, simp one-mul at (xor-shifted 1 n low fits)) in
-        rw cut (run-xor f (2 ^ n) low ∙ ap₂ bitXor (eqb-true (run f (2 ^ n)) (run g (2 ^ n)) (both .0)) (ih low fits) ∙ sym (run-xor g (2 ^ n) low))
+        rw cut (af (2 ^ n) low ∙ ap₂ bitXor (eqb-true (f (2 ^ n)) (g (2 ^ n)) (both .0)) (ih low fits) ∙ sym (ag (2 ^ n) low))

@@ -1,5 +1,5 @@
 -- A frame has room for what is put there, and a reply has 256 bytes at the most.
-use mathlib.Core.Path.{_≡_, sym}
+use mathlib.Core.Path.{_≡_, sym, _∙_}
 use mathlib.Core.Bool.{Bool, true, false, cond}
 use mathlib.Core.List.{List}
 use Prim.Native.Nat.{ℕ, _≤_, min}
@@ -24,7 +24,7 @@ put : (c : tie.After-n) → c .n .given .0 .0 ≤ 257
 put c =
     let a = c .before .before .before in
     let s = a .before .before .before in
-    let holds : lineOf (s .args .line .now) 257 ≡ Frame (c .n .given .0 .0) = cc in
+    let holds : lineOf (s .args .line .now) 257 ≡ Frame (c .n .given .0 .0) = sym (a .frame2 .ensures .told) ∙ c .n .given .1 in
     kept (s .args .line .now) 257 _ holds
 
 slice-aggregate-frame : tie.Need-slice-aggregate-frame

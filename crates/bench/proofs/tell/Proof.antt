@@ -12,8 +12,7 @@ use Rattle.bench.proofs.tell.Tie as tie
 within : (c : tie.After-did) → c .did .given .0 .0 ≤ length (c .before .before .before .args .reply .now)
 within c =
     let s = c .before .before .before in
-    let sent : s .args .did ≡ Sent (c .did .given .0 .0) = cc in
-    s .pre .1 _ sent
+    s .pre .1 _ (c .did .given .1)
 
 enum-told : tie.Need-enum-told
 enum-told c = search needs

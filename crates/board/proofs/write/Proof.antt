@@ -1,9 +1,10 @@
 -- What the write came to is stored and, unless it is for all meters, answered by its verdict.
-use mathlib.Core.Path.{_≡_, _∙_}
+use mathlib.Core.Path.{_≡_, sym, ap, _∙_}
 use native.Mathlib.Omega.{arith}
 use borrow.Author.Needs.{needs}
 use Rattle.modbus.proofs.Frames.{heeded, shaped-length}
 use Rattle.store.specs.declared.Verdict.the-variants.{Good, Wrong}
+use Rattle.store.specs.declared.Written.{Written}
 use Rattle.store.specs.Writes.{writtenOf}
 use Rattle.directory.specs.Views.{own}
 use Rattle.board.proofs.Cases.{allowed, write-silent, write-sent}
@@ -35,7 +36,8 @@ enum-told c = search needs
 put-echo-requires : tie.Need-put-echo-requires
 put-echo-requires c κs =
     let s = c .before .before .before .before .before .before .before .before .before in
-    let good : writtenOf (s .args .meter) (s .args .frame .now) .verdict ≡ Good = cc in
+    let w = c .before .before .before .before .before .before .write in
+    let good : writtenOf (s .args .meter) (s .args .frame .now) .verdict ≡ Good = ap (λ (x : Written). x .verdict) (sym (w .ensures)) ∙ c .before .enum-told .given .1 in
     (omega (arith, shaped-length (s .args .frame .now) (write-when .legal (s .args .meter) (s .args .frame .now) .0 good .0) .0), s .pre .1 .1)
 
 enum-known-verdict : tie.Need-enum-known-verdict
@@ -54,7 +56,7 @@ returns-2 : tie.Need-returns-2
 returns-2 c =
     let s = c .before .before .before .before .before .before .before .before .before .before .before .before in
     let w = c .before .before .before .before .before .before .before .before .before .write in
-    let good : w .result .verdict ≡ Good = cc in
+    let good : w .result .verdict ≡ Good = c .before .before .before .before .enum-told .given .1 in
     let e = c .before .before .put-echo .ensures in
     allowed (write-sent own (s .args .meter) (s .args .frame .now) (s .args .buffer .now) (s .pre .1 .0) (w .result) (w .ensures) (c .before .before .before .before .before .before .if1 .left) Good good _ _ (e .0) (e .1))
 
@@ -65,8 +67,9 @@ returns-3 : tie.Need-returns-3
 returns-3 c =
     let s = c .before .before .before .before .before .before .before .before .before .before .before .before .before in
     let w = c .before .before .before .before .before .before .before .before .before .before .write in
-    let code = c .before .before .before .before .before .verdict .given .0 .0 in
-    let wrong : w .result .verdict ≡ Wrong code = cc in
+    let told = c .before .before .before .before .before .verdict .given in
+    let code = told .0 .0 in
+    let wrong : w .result .verdict ≡ Wrong code = told .1 in
     let e = c .before .before .put-error .ensures in
     allowed (write-sent own (s .args .meter) (s .args .frame .now) (s .args .buffer .now) (s .pre .1 .0) (w .result) (w .ensures) (c .before .before .before .before .before .before .before .if1 .left) (Wrong code) wrong _ _ (e .0) (e .1))
 

@@ -34,8 +34,7 @@ enum-told c = search needs
 returns : tie.Need-returns
 returns c =
     let s = c .before .before .before .before .before .before in
-    let j = c .before .before .read-in .ensures in
-    let f : readIn (view s) (s .args .request .now) ≡ Error (c .enum-told .given .0 .0) = cc in
+    let f : readIn (view s) (s .args .request .now) ≡ Error (c .enum-told .given .0 .0) = sym (c .before .before .read-in .ensures) ∙ c .enum-told .given .1 in
     ap (λ (span : Span). onItems (view s) span (going s)) (sym f)
 
 -- where the read asks for items
@@ -43,7 +42,7 @@ abbrev start : tie.After-known-told → tie.Start
 start c = c .before .before .before .before .before .before .before
 
 found : (c : tie.After-known-told) → readIn (view (start c)) (start c .args .request .now) ≡ Items (c .before .span .given .0 .0) (c .before .span .given .0 .1 .0)
-found c = let j = c .before .before .before .read-in .ensures in cc
+found c = sym (c .before .before .before .read-in .ensures) ∙ c .before .span .given .1
 
 asked : (c : tie.After-known-told) → AskedPart (start c .args .t .now) (start c .args .reach) (start c .args .request .now) (c .before .span .given .0 .0) (c .before .span .given .0 .1 .0)
 asked c = asked-part (start c .args .t .now) (start c .args .reach) (start c .pre) (found c)

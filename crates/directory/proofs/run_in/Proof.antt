@@ -68,14 +68,14 @@ enum-told c = search needs
 returns : tie.Need-returns Inv-loop μ-loop
 returns c =
     let s = c .before .before .before .before in
-    let f : findIn (view s) (s .args .start) 0 ≡ Nothing = cc in
+    let f : findIn (view s) (s .args .start) 0 ≡ Nothing = sym (c .before .before .find-in .ensures) ∙ c .enum-told .given .1 in
     sym (run-nowhere (view s) (s .args .start) (s .args .words) f)
 
 loop-holds : tie.Need-loop-holds Inv-loop μ-loop
 loop-holds c =
     let s = c .before .before .before .before .before in
     let first = c .before .found .given .0 .0 in
-    let f : findIn (view s) (s .args .start) 0 ≡ At first = cc in
+    let f : findIn (view s) (s .args .start) 0 ≡ At first = sym (c .before .before .before .find-in .ensures) ∙ c .before .found .given .1 in
     let none-passed : first - first ≡ 0 = omega arith in
     (omega arith, omega (arith, found-inside (view s) (s .args .start) first f, size s), rw none-passed (run-starts (view s) (s .args .start) (s .args .words) first f), stands-first (s .args .start) first f)
 

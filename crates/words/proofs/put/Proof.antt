@@ -1,6 +1,10 @@
 -- One word is the lower one; two are stored one behind the other, which is one run of stores.
-use mathlib.Core.Path.{_≡_}
+use mathlib.Core.Path.{_≡_, ap, _∙_}
+use mathlib.Core.List.{List}
+use Prim.Native.Nat.{ℕ, _+_, _%_}
 use native.Mathlib.Omega.{arith}
+use lib.Seq.{sets}
+use Rattle.words.specs.Words.{word}
 use Rattle.words.proofs.Laws.{sets-append, sent-word, sent-long}
 use borrow.Author.Needs.{needs}
 use Rattle.words.proofs.put.Statement.{statement}
@@ -39,7 +43,10 @@ returns-2 : tie.Need-returns-2
 returns-2 c =
     let s = c .before .before .before .before .before .before .before .before .before .before in
     let two : s .args .words ≡ 2 = omega arith in
-    rw (two, sent-long (s .args .v) (search needs), sets-append) (cc)
+    let lower = c .before .before in
+    let upper = lower .before .before .before .before in
+    rw (two, sent-long (s .args .v) (search needs), sets-append)
+    (lower .put-word3 .ensures ∙ ap (λ (l : List ℕ). sets l (s .args .at + 2) (word (s .args .v % 65536))) (upper .put-word2 .ensures))
 
 pub put-spec : {M : Type 1} → statement M
 put-spec =

@@ -1,5 +1,5 @@
 -- By the width: one word, or the upper one times 65,536 and the lower.
-use mathlib.Core.Path.{_≡_}
+use mathlib.Core.Path.{_≡_, refl}
 use native.Mathlib.Omega.{arith}
 use Rattle.words.proofs.Laws.{value-word, value-long}
 use borrow.Author.Needs.{needs}
@@ -35,7 +35,7 @@ returns c =
 returns-2 : tie.Need-returns-2
 returns-2 c =
     let two : c .before .before .before .before .args .words ≡ 2 = omega arith in
-    rw (two, value-long) (cc)
+    rw (two, value-long, c .before .before .word-at .ensures, c .word-at2 .ensures) refl
 
 pub value-at-spec : {M : Type 1} → statement M
 value-at-spec =

@@ -1,5 +1,5 @@
 -- Each judgement of a read has its reply, and the items that it asks for stand in a part of the table.
-use mathlib.Core.Path.{_≡_, ap, _∙_}
+use mathlib.Core.Path.{_≡_, sym, ap, _∙_}
 use mathlib.Core.List.{List}
 use Prim.Native.Nat.{ℕ}
 use lib.ListN.{length}
@@ -44,7 +44,7 @@ abbrev start : tie.After-known-told2 → tie.Start
 start c = c .before .before .before .before .before .before .before
 
 found : (c : tie.After-known-told2) → readIn (view (start c)) (start c .args .frame .now) ≡ Items (c .before .first .given .0 .0) (c .before .first .given .0 .1 .0)
-found c = let j = c .before .before .before .read-in .ensures in cc
+found c = sym (c .before .before .before .read-in .ensures) ∙ c .before .first .given .1
 
 asked : (c : tie.After-known-told2) → AskedPart (start c .args .t .now) (start c .args .reach) (start c .args .frame .now) (c .before .first .given .0 .0) (c .before .first .given .0 .1 .0)
 asked c = asked-part (start c .args .t .now) (start c .args .reach) (start c .pre .0) (found c)
@@ -66,8 +66,9 @@ returns : tie.Need-returns
 returns c =
     let s = c .before .before .before .before .before .before .before .before .before .before .before in
     let j = c .before .before .before .before .before .before .before .read-in .ensures in
-    let code = c .before .before .before .before .before .code .given .0 .0 in
-    let wrong : readIn (view s) (s .args .frame .now) ≡ Error code = cc in
+    let told = c .before .before .before .before .before .code .given in
+    let code = told .0 .0 in
+    let wrong : readIn (view s) (s .args .frame .now) ≡ Error code = sym j ∙ told .1 in
     replied (view s) (shownOf (s .args .m)) (s .args .frame .now) (s .args .buffer .now) (Error code) wrong (c .before .before .put-error .ensures)
 
 same-length-2 : tie.Need-same-length-2

@@ -12,8 +12,7 @@ use Rattle.vectors.proofs.frames.ask.Tie as tie
 sent : (c : tie.After-did) → c .did .given .0 .0 ≤ 256
 sent c =
     let h = c .before .before .before .handle in
-    let e : h .result .reply ≡ Sent (c .did .given .0 .0) = cc in
-    reply-long _ _ _ (h .ensures .handled) e
+    reply-long _ _ _ (h .ensures .handled) (c .did .given .1)
 
 text-requires : tie.Need-text-requires
 text-requires c κs = search needs
