@@ -14,8 +14,9 @@ use Rattle.crc.proofs.Laws.{length-sealed}
 use Rattle.directory.specs.declared.Span.{Span}
 use Rattle.directory.specs.declared.Span.the-variants.{Items, Error}
 use Rattle.directory.specs.Run.{runItems}
-use Rattle.directory.specs.Views.{View, passes, own}
-use Rattle.directory.proofs.Rules.{own-passes}
+use Rattle.directory.specs.Views.{View, passes}
+use Rattle.own.specs.Own.{own}
+use Rattle.own.proofs.Rules.{own-passes}
 use Rattle.directory.proofs.Views.{passes-room}
 use Rattle.modbus.specs.Frame.{addressOf, functionOf, wordNumber, silence, isRead, isWrite}
 use Rattle.modbus.specs.Read.{readIn}
@@ -96,4 +97,4 @@ module _ (v : View) (good : T (passes v)) (m : Meter) (frame b : List ℕ) where
 
 -- a program's buffer has room for the reply that `board::handle` answers with
 pub reply-long : (m : Meter) (frame b : List ℕ) {h : Handled} {n : ℕ} → h ≡ boardOf m frame b .handled → h .reply ≡ Sent n → n ≤ 256
-reply-long m frame b is e = board-short own own-passes m frame b _ (ap (λ (x : Handled). x .reply) (sym is) ∙ e)
+reply-long m frame b is e = board-short own (own-passes .passed) m frame b _ (ap (λ (x : Handled). x .reply) (sym is) ∙ e)

@@ -7,7 +7,7 @@ ghost use Prim.Native.Nat.{_≤_};
 ghost use lib.ListN.{length};
 ghost use Rattle.modbus.specs.Frame.{silence, isWrite};
 ghost use Rattle.meter.specs.Meters.{meterOk};
-ghost use Rattle.directory.specs.Views.{own};
+ghost use Rattle.own.specs.Own.{own};
 ghost use Rattle.board.specs.Board.{Allowed, obeyedIn, boardOf};
 use meter::Meter;
 use refusal::ErrorCode;

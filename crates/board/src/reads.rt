@@ -8,15 +8,16 @@ ghost use lib.Seq.{sets};
 ghost use Rattle.directory.specs.Item.{items};
 ghost use Rattle.directory.specs.Order.{every, narrow};
 ghost use Rattle.directory.specs.Run.{wordsOf};
-ghost use Rattle.directory.specs.Views.{own, viewOf, Lent};
+ghost use Rattle.directory.specs.Views.{viewOf, Lent};
+ghost use Rattle.own.specs.Own.{own};
 ghost use Rattle.modbus.specs.Frame.{functionOf, wordNumber};
 ghost use Rattle.meter.specs.Meters.{meterOk};
 ghost use Rattle.registers.specs.Shown.{shownOf};
 ghost use Rattle.board.specs.Reads.{itemsSent, dataReply, readReply};
 use directory::Reach;
 use directory::Span;
-use directory::table;
 use meter::Meter;
+use own::table;
 
 // Puts the reply at the start of the buffer, and answers its length.
 pub(crate) fn read(m: Meter, frame: &[u8], buffer: &mut [u8]) -> usize
@@ -26,7 +27,7 @@ pub(crate) fn read(m: Meter, frame: &[u8], buffer: &mut [u8]) -> usize
     ensures { λ r. ⌜ r ≡ length (readReply own (shownOf m) (now (frame .entry))) ⌝ }
     ensures { λ _. ⌜ now (buffer .exit) ≡ sets (now (buffer .entry)) 0 (readReply own (shownOf m) (now (frame .entry))) ⌝ }
 {
-    along(&table::TABLE, Reach::own(), m, frame, buffer)
+    along(&table::TABLE, own::reach(), m, frame, buffer)
 }
 
 // The same with the table lent: to name the constant is to lay it out anew.

@@ -17,7 +17,8 @@ use Rattle.directory.specs.declared.Span.{Span}
 use Rattle.directory.specs.declared.Span.the-variants as span
 use Rattle.directory.specs.Item.{none}
 use Rattle.directory.specs.Run.{runItems, wordsOf}
-use Rattle.directory.specs.Views.{View, own}
+use Rattle.directory.specs.Views.{View}
+use Rattle.own.specs.Own.{own}
 use Rattle.modbus.specs.Frame.{addressOf, functionOf, isRead, wordNumber, silence}
 use Rattle.modbus.specs.Read.{readIn}
 use Rattle.reading.specs.declared.Answer.{Answer}

@@ -13,7 +13,7 @@ ghost use Rattle.modbus.specs.Read.{readIn};
 ghost use Rattle.collector.specs.Collector.{heard, onItems, errorOf, placeOf, itemOf, replyOf, collectorOf};
 use directory::Reach;
 use directory::Span;
-use directory::table;
+use own::table;
 
 // The whole face stands here: beside `read` its answers, and the joins with their refusals.
 pub use counts::Count;
@@ -46,7 +46,7 @@ pub fn read(request: &[u8], reply: &[u8], ratios: Ratios, index: usize) -> Answe
     }
     along(
         &table::TABLE,
-        Reach::own(),
+        own::reach(),
         request,
         reply,
         ratios.tenths(),

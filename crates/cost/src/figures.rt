@@ -1,8 +1,8 @@
 // A meter that takes the same sample every second, and all that its registers then show.
-use directory::table::TABLE;
 use meter::Meter;
 use meter::samples::Powers;
 use meter::samples::Sample;
+use own::table::TABLE;
 use ratio::Ratios;
 
 const SAMPLE_TURNS: u32 = 1000;
@@ -46,7 +46,7 @@ fn shown(m: Meter) -> u32 {
     let mut shows: u32 = 0;
     let mut k: u32 = 0;
     while k < SHOWN_TURNS {
-        let it = directory::item_at(&TABLE, k as usize % directory::ITEMS);
+        let it = directory::item_at(&TABLE, k as usize % own::ITEMS);
         shows = shows ^ registers::shown(m, it.quantity);
         k += 1;
     }

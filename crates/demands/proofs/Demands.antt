@@ -5,7 +5,8 @@ use Rattle.words.proofs.Laws.{byte-sent, read-back}
 use Rattle.words.proofs.Signs.{signed-back}
 use Rattle.lines.proofs.Texts.{text-back}
 use Rattle.counts.proofs.Joins.{join-split}
-use Rattle.directory.proofs.Rules.{directory-rules, three-tables, kinds-in-order}
+use Rattle.directory.proofs.Rules.{directory-rules}
+use Rattle.own.proofs.Rules.{own-passes, three-tables, kinds-in-order}
 use Rattle.directory.proofs.Bites.{tests-bite}
 use Rattle.directory.proofs.Sends.{run-sends}
 use Rattle.modbus.proofs.Judged.{read-when}
@@ -49,7 +50,8 @@ ground = record {
   bytes = byte-sent;
   words = read-back;
   signed = signed-back;
-  table = directory-rules;
+  directory = directory-rules;
+  own = own-passes;
   tests = tests-bite;
   kinds = kinds-in-order;
   places = three-tables;

@@ -5,7 +5,7 @@ use Rattle.words.specs.Words.{sent, valueAt}
 use Rattle.words.specs.Signed.{twos}
 use Rattle.ratio.specs.Powers.{powerUnit}
 use Rattle.ratio.specs.Steps.{stepOf}
-use Rattle.directory.specs.Table.{directory}
+use Rattle.own.specs.Table.{directory}
 use Rattle.directory.specs.Run.{findIn, runFrom, runIn, wordsOf}
 use Rattle.modbus.specs.Frame.{silence}
 use Rattle.modbus.specs.Read.{readIn}

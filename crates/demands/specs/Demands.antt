@@ -6,10 +6,11 @@ use Rattle.words.specs.Words.{ByteSent, ReadBack}
 use Rattle.words.specs.Signed.{SignedBack}
 use Rattle.lines.specs.Lines.{TextBack}
 use Rattle.counts.specs.Energies.{JoinSplit}
-use Rattle.directory.specs.Rules.{DirectoryRules, ThreeTables}
+use Rattle.directory.specs.Rules.{DirectoryRules}
 use Rattle.directory.specs.Run.{RunSends}
 use Rattle.directory.specs.Views.{View, passes}
-use Rattle.directory.specs.Kinds.{KindsInOrder}
+use Rattle.own.specs.Rules.{OwnPasses, ThreeTables}
+use Rattle.own.specs.Kinds.{KindsInOrder}
 use Rattle.directory.specs.Bites.{TestsBite}
 use Rattle.modbus.specs.Read.{ReadWhen}
 use Rattle.reading.specs.Cases.{OneAnswerEach}
@@ -29,7 +30,7 @@ use Rattle.demands.specs.Determined.{Determined, Numbered}
 use Rattle.demands.specs.ShutOut.{ShutOut}
 use Rattle.demands.specs.Starred.{ExamplesHold}
 
--- what is said of every view that passes the tests, paper 01's own among them (`DirectoryRules.passed`)
+-- what is said of every view that passes the tests, paper 01's own among them (`OwnPasses.passed`)
 abbrev pub Every : (View → Type 0) → Type 0
 Every Of = (v : View) → T (passes v) → Of v
 
@@ -54,7 +55,8 @@ pub record Ground : Type 0 where
   pub bytes : ByteSent
   pub words : ReadBack
   pub signed : SignedBack
-  pub table : DirectoryRules
+  pub directory : DirectoryRules
+  pub own : OwnPasses
   pub tests : TestsBite
   pub kinds : KindsInOrder
   pub places : ThreeTables

@@ -1,5 +1,5 @@
 -- Paper 01, "What the meter does with a frame", step 4: what a read is judged by, a directory and the most words that it may ask for. What
--- is said of reads is said of every view that passes the tests; paper 01's own enters by them.
+-- is said of reads is said of every view that passes the tests; paper 01's own (the crate `own`) enters by them.
 use Prim.Native.Nat.{ℕ, _+_, _*_, _≤_}
 use mathlib.Core.Bool.{Bool, _&&_}
 use mathlib.Core.List.{List}
@@ -9,7 +9,6 @@ use Rattle.directory.specs.declared.Item.{Item}
 use Rattle.directory.specs.declared.Reach.{Reach}
 use Rattle.directory.specs.Item.{items}
 use Rattle.directory.specs.Order.{tested}
-use Rattle.directory.specs.Table.{directory}
 
 -- the directory that is seen, and the most words of a read
 pub record View : Type 0 where
@@ -19,14 +18,6 @@ pub record View : Type 0 where
 -- its tests: those of a directory; an L may be asked for; and a reply of the most words, with its head and CRC, has room in a frame
 abbrev pub passes : View → Bool
 passes v = tested (v .seen) && (leb 2 (v .most) && leb (5 + 2 * v .most) 256)
-
--- paper 01's own: the 142 items, and 120 words
-abbrev pub own : View
-own = record { seen = directory; most = 120 }
-
--- how far the constant table of the code is seen, for that
-abbrev pub ownReach : Reach
-ownReach = record { items = 142; most = own .most }
 
 -- a flat table that is lent, as far as it is seen
 abbrev pub viewOf : List ℕ → Reach → View

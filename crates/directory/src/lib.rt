@@ -1,8 +1,6 @@
-// The directory of registers (paper 01, "The directory"): a flat constant table, an item found in it by its address,
-// and the run of items that a read asks for. What goes along a table takes any table, and how far it is to be seen;
-// the public face goes along the meter's own.
+// A directory of registers (paper 01, "The directory"): what an item is, and along any flat table of items, as far as it is to be
+// seen, an item found by its address and the run of items that a read asks for. Paper 01's own table is the crate `own`.
 pub mod quantity;
-pub mod table;
 
 ghost use mathlib.Core.Path.{_≡_};
 ghost use Prim.Native.Nat.{_+_, _*_, _≤_};
@@ -11,8 +9,6 @@ ghost use lib.Dec.{T};
 ghost use Rattle.directory.specs.Item.{items, none, isB};
 ghost use Rattle.directory.specs.Order.{ruled};
 ghost use Rattle.directory.specs.Run.{findIn, runIn};
-ghost use Rattle.directory.specs.Table.{directory};
-ghost use Rattle.directory.specs.Views.{ownReach};
 use refusal::ErrorCode;
 
 pub struct Item {
@@ -36,25 +32,10 @@ impl Item {
 // The numbers of a table that are one item.
 pub const NUMBERS: usize = 4;
 
-// How many items paper 01's table has.
-pub const ITEMS: usize = 142;
-
 // How far a table is seen, lent beside it: so many of its first items, and so many words in one read.
 pub struct Reach {
     pub items: usize,
     pub most: u16,
-}
-
-impl Reach {
-    // Paper 01's own.
-    pub fn own() -> Reach
-        ensures { λ r. ⌜ r ≡ ownReach ⌝ }
-    {
-        Reach {
-            items: ITEMS,
-            most: 120,
-        }
-    }
 }
 
 pub enum Found {
@@ -66,13 +47,6 @@ pub enum Found {
 pub enum Span {
     Items { first: usize, count: usize },
     Error(ErrorCode),
-}
-
-// The run along the meter's directory.
-pub fn run(start: u16, words: u16) -> Span
-    ensures { λ r. ⌜ r ≡ runIn directory start words ⌝ }
-{
-    run_in(&table::TABLE, ITEMS, start, words)
 }
 
 // The run for `words` words from `start`. An item that starts where the one before ends can only be the table's next,

@@ -7,7 +7,7 @@ use borrow.Author.Needs.{needs}
 use borrow.Author.Tests.{not-true, not-false, lt-ltb, le-ltb}
 use Rattle.modbus.specs.Frame.{silence}
 use Rattle.meter.specs.Meters.{meterOk}
-use Rattle.directory.specs.Views.{own}
+use Rattle.own.specs.Own.{own}
 use Rattle.board.proofs.Cases.{allowed, board-1, board-2, board-silent, board-obeys}
 use Rattle.board.proofs.handle.Statement.{statement}
 use Rattle.board.proofs.handle.Tie as tie

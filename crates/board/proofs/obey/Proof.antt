@@ -4,7 +4,7 @@ use native.Mathlib.Omega.{arith}
 use borrow.Author.Needs.{needs}
 use borrow.Author.Tests.{eq-eqb, ne-eqb}
 use Rattle.modbus.proofs.Frames.{Heeded, heeded}
-use Rattle.directory.specs.Views.{own}
+use Rattle.own.specs.Own.{own}
 use Rattle.board.proofs.Cases.{allowed, unwritten, read-sent, other-sent}
 use Rattle.board.proofs.obey.Statement.{statement}
 use Rattle.board.proofs.obey.Tie as tie

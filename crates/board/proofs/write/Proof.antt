@@ -6,7 +6,7 @@ use Rattle.modbus.proofs.Frames.{heeded, shaped-length}
 use Rattle.store.specs.declared.Verdict.the-variants.{Good, Wrong}
 use Rattle.store.specs.declared.Written.{Written}
 use Rattle.store.specs.Writes.{writtenOf}
-use Rattle.directory.specs.Views.{own}
+use Rattle.own.specs.Own.{own}
 use Rattle.board.proofs.Cases.{allowed, write-silent, write-sent}
 use Rattle.store.proofs.Verdicts.{write-when}
 use Rattle.board.proofs.write.Statement.{statement}

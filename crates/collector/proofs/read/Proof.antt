@@ -6,10 +6,11 @@ use Prim.Native.Nat.{ℕ}
 use borrow.Author.Tests.{not-true, not-false}
 use Rattle.ratio.specs.declared.Ratios.{Ratios}
 use Rattle.ratio.specs.Ratios.{ratiosOk, tOf}
-use Rattle.directory.specs.Table.{directory}
-use Rattle.directory.specs.Views.{View, own}
+use Rattle.own.specs.Table.{directory}
+use Rattle.directory.specs.Views.{View}
+use Rattle.own.specs.Own.{own}
 use Rattle.directory.proofs.Flat.{flat}
-use Rattle.directory.proofs.Rules.{own-view, own-lent}
+use Rattle.own.proofs.Rules.{own-view, own-lent}
 use Rattle.modbus.specs.Read.{readIn}
 use Rattle.reading.specs.declared.Answer.{Answer}
 use Rattle.collector.specs.Collector.{heard, onItems, replyOf, collectorIn}
@@ -34,15 +35,15 @@ returns-2 c = simp (sym (c .before .before .before .within .ensures) ∙ not-fal
 slice-aggregate-along : tie.Need-slice-aggregate-along
 slice-aggregate-along c = search needs
 
-own-requires : tie.Need-own-requires
-own-requires c κs = search needs
+reach-requires : tie.Need-reach-requires
+reach-requires c κs = search needs
 
 tenths-requires : tie.Need-tenths-requires
 tenths-requires c κs = search needs
 
 along-requires : tie.Need-along-requires
 unfolding directory flat
-along-requires c κs = own-lent _ (c .before .own .ensures)
+along-requires c κs = own-lent _ (c .before .reach .ensures)
 
 -- 3 and 7 are passed
 passed : (v : View) (request reply : List ℕ) (r : Ratios) (index : ℕ) → ratiosOk r ≡ true → heard request ≡ true → onItems v (readIn v request) (λ its. replyOf (tOf r) request reply its index) ≡ collectorIn v request reply r index
@@ -56,7 +57,7 @@ returns-3 c =
     let a = h .before .before .before .before .before .before .args in
     let over : View → ℕ → Answer = λ v t. onItems v (readIn v (a .request .now)) (λ its. replyOf t (a .request .now) (a .reply .now) its (a .index)) in
     c .along .ensures
-    ∙ ap₂ over (own-view _ (c .before .before .own .ensures)) (c .before .tenths .ensures)
+    ∙ ap₂ over (own-view _ (c .before .before .reach .ensures)) (c .before .tenths .ensures)
     ∙ passed own (a .request .now) (a .reply .now) (a .ratios) (a .index) (sym (h .before .before .before .within .ensures) ∙ not-false _ (h .before .before .if1 .left)) (sym (h .before .heard .ensures) ∙ not-false _ (h .if2 .left))
 
 pub read-spec : {M : Type 1} → statement M
@@ -68,7 +69,7 @@ read-spec =
     heard-requires
     returns-2
     slice-aggregate-along
-    own-requires
+    reach-requires
     tenths-requires
     along-requires
     returns-3)

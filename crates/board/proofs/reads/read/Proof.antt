@@ -3,10 +3,10 @@ use mathlib.Core.Path.{ap, _∙_}
 use lib.ListN.{length}
 use lib.Seq.{sets}
 use borrow.Author.Needs.{needs}
-use Rattle.directory.specs.Table.{directory}
+use Rattle.own.specs.Table.{directory}
 use Rattle.directory.specs.Views.{View}
 use Rattle.directory.proofs.Flat.{flat}
-use Rattle.directory.proofs.Rules.{own-view, own-lent}
+use Rattle.own.proofs.Rules.{own-view, own-lent}
 use Rattle.registers.specs.Shown.{shownOf}
 use Rattle.board.specs.Reads.{readReply}
 use Rattle.board.proofs.reads.read.Statement.{statement}
@@ -15,14 +15,14 @@ use Rattle.board.proofs.reads.read.Tie as tie
 slice-aggregate-along : tie.Need-slice-aggregate-along
 slice-aggregate-along c = search needs
 
-own-requires : tie.Need-own-requires
-own-requires c κs = search needs
+reach-requires : tie.Need-reach-requires
+reach-requires c κs = search needs
 
 along-requires : tie.Need-along-requires
 unfolding directory flat
 along-requires c κs =
     let s = c .before .before .before .before .before in
-    (own-lent _ (c .before .own .ensures), s .pre)
+    (own-lent _ (c .before .reach .ensures), s .pre)
 
 same-length : tie.Need-same-length
 same-length c = search needs
@@ -32,8 +32,8 @@ unfolding directory flat
 returns c =
     let s = c .before .before .before .before .before .before .before .before in
     let e = c .before .before .along .ensures in
-    let same = ap (λ (v : View). readReply v (shownOf (s .args .m)) (s .args .frame .now)) (own-view _ (c .before .before .before .before .own .ensures)) in
+    let same = ap (λ (v : View). readReply v (shownOf (s .args .m)) (s .args .frame .now)) (own-view _ (c .before .before .before .before .reach .ensures)) in
     (e .0 ∙ ap length same, e .1 ∙ ap (sets (s .args .buffer .now) 0) same)
 
 pub read-spec : {M : Type 1} → statement M
-read-spec = tie.close (tie.spec slice-aggregate-along own-requires along-requires same-length returns)
+read-spec = tie.close (tie.spec slice-aggregate-along reach-requires along-requires same-length returns)

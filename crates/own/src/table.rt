@@ -1,6 +1,6 @@
 // Paper 01's 142 items: address, addresses filled, words sent, quantity. Byte block: L is 4, 2; W 2, 1; B 1, 1.
 // Word blocks: L is 2, 2; W 1, 1. Laid out by hand, one item a line.
-use crate::quantity::*;
+use directory::quantity::*;
 
 pub const TABLE: [u16; 568] = [
     0x0100, 2, 1, KTA,

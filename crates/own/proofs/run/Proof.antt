@@ -1,11 +1,11 @@
 -- The flat table, read four numbers at a time, is the directory.
 use native.Mathlib.Omega.{arith}
 use Rattle.directory.specs.Item.{items}
-use Rattle.directory.specs.Table.{directory}
-use Rattle.directory.proofs.Rules.{own-ruled}
+use Rattle.own.specs.Table.{directory}
+use Rattle.own.proofs.Rules.{own-ruled}
 use borrow.Author.Needs.{needs}
-use Rattle.directory.proofs.run.Statement.{statement}
-use Rattle.directory.proofs.run.Tie as tie
+use Rattle.own.proofs.run.Statement.{statement}
+use Rattle.own.proofs.run.Tie as tie
 
 slice-aggregate-run-in : tie.Need-slice-aggregate-run-in
 slice-aggregate-run-in c = search needs

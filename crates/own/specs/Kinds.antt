@@ -4,8 +4,8 @@ use Prim.Native.Nat.{ℕ, _/_}
 use mathlib.Core.Bool.{cond}
 use mathlib.Core.List.{List, [], _∷_, map}
 use lib.Dec.{eqb}
 use Rattle.directory.specs.declared.Item.{Item}
-use Rattle.directory.specs.Table.{directory}
+use Rattle.own.specs.Table.{directory}
 
 -- the address of the first item of a kind; 0 where there is none
 unfoldable pub firstOfKind : List Item → ℕ → ℕ

@@ -1,0 +1,53 @@
+-- The tests computed over the whole table, and the table as it is lent.
+use mathlib.Core.Path.{_≡_, refl, sym, ap, subst, _∙_}
+use mathlib.Core.List.{List}
+use native.Mathlib.Omega.{arith}
+use lib.Dec.{T}
+use lib.ListN.{length, take}
+use lib.Seq.{take-all}
+use Rattle.directory.specs.declared.Item.{Item}
+use Rattle.directory.specs.declared.Reach.{Reach}
+use Rattle.directory.specs.Order.{ascends, every, ruled}
+use Rattle.directory.specs.Views.{View, passes, viewOf, Lent}
+use Rattle.directory.proofs.Flat.{items-length, flat, items-flat}
+use Rattle.directory.proofs.Views.{passes-ruled}
+use Rattle.own.specs.Table.{directory}
+use Rattle.own.specs.Own.{own, ownReach}
+use Rattle.own.specs.Rules.{OwnPasses, placesOf, ThreeTables}
+use Rattle.own.specs.Kinds.{firstOfKind, KindsInOrder}
+
+-- THE TESTS of paper 01's own
+passed : T (passes own)
+unfolding ascends every directory
+passed = tt
+
+pub own-ruled : T (ruled directory)
+own-ruled = passes-ruled own passed
+
+directory-count : length directory ≡ 142
+unfolding directory
+directory-count = refl
+
+pub own-passes : OwnPasses
+own-passes = record { count = directory-count; passed = passed }
+
+-- the constant table, seen whole
+module _ (reach : Reach) (whole : reach ≡ ownReach) where
+  pub own-view : viewOf (flat directory) reach ≡ own
+  own-view =
+      ap (viewOf (flat directory)) whole
+      ∙ ap (λ (its : List Item). record { seen = its; most = own .most }) (ap (take 142) (items-flat directory) ∙ take-all 142 directory (omega (arith, directory-count)))
+
+  pub own-lent : Lent (flat directory) reach
+  own-lent = record {
+    holds = omega (arith, ap (λ (r : Reach). r .items) whole, items-length (flat directory), ap length (items-flat directory), directory-count);
+    good = subst (λ (v : View). T (passes v)) (sym own-view) passed;
+  }
+
+pub three-tables : ThreeTables
+unfolding placesOf directory
+three-tables = record { at-posEa = refl; at-posEr = refl; at-negEa = refl; at-negEr = refl }
+
+pub kinds-in-order : KindsInOrder
+unfolding firstOfKind directory
+kinds-in-order = record { first = refl; energies = refl; others = refl; last = refl }

@@ -1,0 +1,12 @@
+-- Paper 01, "The directory", and the limit of "What the meter does with a frame", step 4: paper 01's own view.
+use Rattle.directory.specs.declared.Reach.{Reach}
+use Rattle.directory.specs.Views.{View}
+use Rattle.own.specs.Table.{directory}
+
+-- the 142 items, and 120 words
+abbrev pub own : View
+own = record { seen = directory; most = 120 }
+
+-- how far the constant table of the code is seen, for that
+abbrev pub ownReach : Reach
+ownReach = record { items = 142; most = own .most }

@@ -1,0 +1,35 @@
+-- Paper 01, "The directory": what is true of its 142 items.
+use mathlib.Core.Path.{_≡_}
+use Prim.Native.Nat.{ℕ}
+use mathlib.Core.Bool.{cond}
+use mathlib.Core.List.{List, [], _∷_}
+use lib.Dec.{T, eqb}
+use lib.ListN.{length}
+use Rattle.directory.specs.declared.Item.{Item}
+use Rattle.directory.specs.Quantity.{energyCount, low, high, wrap, posEa, negEa, posEr, negEr}
+use Rattle.directory.specs.Views.{passes}
+use Rattle.own.specs.Table.{directory}
+use Rattle.own.specs.Own.{own}
+
+-- STATEMENT: there are 142 items, and with the most words of a read they pass the tests: ascending, without overlap, each of the shape of
+-- its block and with room for what it shows
+pub record OwnPasses : Type 0 where
+  pub count : length directory ≡ 142
+  pub passed : T (passes own)
+
+-- the addresses at which a quantity stands
+unfoldable pub placesOf : ℕ → List Item → List ℕ
+placesOf q [] = []
+placesOf q (it ∷ its) = cond (eqb (it .quantity) q) (it .start ∷ placesOf q its) (placesOf q its)
+
+-- the places of an energy: its registers in the byte block and in the words, its wrap, its Low and its High
+abbrev pub energyPlaces : ℕ → List (List ℕ)
+energyPlaces e =
+    placesOf (energyCount e) directory ∷ placesOf (wrap e) directory ∷ placesOf (low e) directory ∷ placesOf (high e) directory ∷ []
+
+-- STATEMENT: one energy stands in three tables
+pub record ThreeTables : Type 0 where
+  pub at-posEa : energyPlaces posEa ≡ (0x325 ∷ 0x101c ∷ []) ∷ (0x1540 ∷ []) ∷ (0x1500 ∷ []) ∷ (0x1502 ∷ []) ∷ []
+  pub at-posEr : energyPlaces posEr ≡ (0x343 ∷ 0x101e ∷ []) ∷ (0x1541 ∷ []) ∷ (0x1504 ∷ []) ∷ (0x1506 ∷ []) ∷ []
+  pub at-negEa : energyPlaces negEa ≡ (0x335 ∷ 0x1020 ∷ []) ∷ (0x1542 ∷ []) ∷ (0x1508 ∷ []) ∷ (0x150a ∷ []) ∷ []
+  pub at-negEr : energyPlaces negEr ≡ (0x348 ∷ 0x1022 ∷ []) ∷ (0x1543 ∷ []) ∷ (0x150c ∷ []) ∷ (0x150e ∷ []) ∷ []
