@@ -29,7 +29,7 @@ unfolding directory
 directory-count = refl
 
 pub own-passes : OwnPasses
-own-passes = record { count = directory-count; passed = passed }
+own-passes = record { count = directory-count; most = refl; passed = passed }
 
 -- the constant table, seen whole
 module _ (reach : Reach) (whole : reach ≡ ownReach) where

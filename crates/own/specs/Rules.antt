@@ -11,10 +11,11 @@ use Rattle.directory.specs.Views.{passes}
 use Rattle.own.specs.Table.{directory}
 use Rattle.own.specs.Own.{own}
 
--- STATEMENT: there are 142 items, and with the most words of a read they pass the tests: ascending, without overlap, each of the shape of
--- its block and with room for what it shows
+-- STATEMENT: there are 142 items, a read asks for 120 words at the most, and both pass the tests: the items ascending, without overlap,
+-- each of the shape of its block and with room for what it shows
 pub record OwnPasses : Type 0 where
   pub count : length directory ≡ 142
+  pub most : own .most ≡ 120
   pub passed : T (passes own)
 
 -- the addresses at which a quantity stands
