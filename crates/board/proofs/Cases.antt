@@ -20,7 +20,7 @@ use Rattle.store.specs.declared.Verdict.{Verdict}
 use Rattle.store.specs.declared.Written.{Written}
 use Rattle.board.specs.Reads.{readReply}
 use Rattle.store.specs.Writes.{writtenOf}
-use Rattle.board.specs.Board.{Outcome, Allowed, refusedOf, silentOf, replyOf, writeReply, obeyedIn, boardIn}
+use Rattle.board.specs.Board.{Outcome, Allowed, refusedOf, silentOf, sentOrSilent, writeReply, obeyedIn, boardIn}
 
 -- what is defined is allowed
 pub allowed : {x y : Outcome} → x ≡ y → Allowed y (x .handled) (x .buffer)
@@ -47,20 +47,20 @@ module _ (v : View) (m : Meter) (frame buffer : List ℕ) where
   pub write-only : isWrite frame ≡ true → isRead frame ≡ false
   write-only w = ap (λ (f : ℕ). eqb f 0x03) (eqb-true (functionOf frame) 0x10 w)
 
-  pub obeys-other : isRead frame ≡ false → isWrite frame ≡ false → replyOf frame (errorReply frame Function) m buffer ≡ obeyedIn v m frame buffer
+  pub obeys-other : isRead frame ≡ false → isWrite frame ≡ false → sentOrSilent frame (errorReply frame Function) m buffer ≡ obeyedIn v m frame buffer
   obeys-other r w = rw (r, w) refl
 
-  pub obeys-read : isRead frame ≡ true → replyOf frame (readReply v (shownOf m) frame) m buffer ≡ obeyedIn v m frame buffer
+  pub obeys-read : isRead frame ≡ true → sentOrSilent frame (readReply v (shownOf m) frame) m buffer ≡ obeyedIn v m frame buffer
   obeys-read r = rw r refl
 
-  pub obeys-write : isWrite frame ≡ true → replyOf frame (writeReply frame (writtenOf m frame .verdict)) (writtenOf m frame .meter) buffer ≡ obeyedIn v m frame buffer
+  pub obeys-write : isWrite frame ≡ true → sentOrSilent frame (writeReply frame (writtenOf m frame .verdict)) (writtenOf m frame .meter) buffer ≡ obeyedIn v m frame buffer
   obeys-write w = rw (write-only w, w) refl
 
   -- for all meters, and for this one
-  to-all : (bytes : List ℕ) (n : Meter) → addressOf frame ≡ 0 → silentOf n buffer ≡ replyOf frame bytes n buffer
+  to-all : (bytes : List ℕ) (n : Meter) → addressOf frame ≡ 0 → silentOf n buffer ≡ sentOrSilent frame bytes n buffer
   to-all bytes n z = rw (eq-eqb (addressOf frame) 0 z) refl
 
-  to-one : (bytes : List ℕ) (n : Meter) → (addressOf frame ≡ 0 → ⊥) → (k : ℕ) (after : List ℕ) → k ≡ length bytes → after ≡ sets buffer 0 bytes → record { handled = record { reply = Sent k; meter = n }; buffer = after } ≡ replyOf frame bytes n buffer
+  to-one : (bytes : List ℕ) (n : Meter) → (addressOf frame ≡ 0 → ⊥) → (k : ℕ) (after : List ℕ) → k ≡ length bytes → after ≡ sets buffer 0 bytes → record { handled = record { reply = Sent k; meter = n }; buffer = after } ≡ sentOrSilent frame bytes n buffer
   to-one bytes n z k after l s = rw (ne-eqb (addressOf frame) 0 z, l, s) refl
 
   pub read-sent : isRead frame ≡ true → (addressOf frame ≡ 0 → ⊥) → (k : ℕ) (after : List ℕ) → k ≡ length (readReply v (shownOf m) frame) → after ≡ sets buffer 0 (readReply v (shownOf m) frame) → record { handled = record { reply = Sent k; meter = m }; buffer = after } ≡ obeyedIn v m frame buffer

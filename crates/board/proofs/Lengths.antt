@@ -31,7 +31,7 @@ use Rattle.store.specs.Writes.{writtenOf}
 use Rattle.board.specs.declared.Handled.{Handled}
 use Rattle.board.specs.declared.Reply.the-variants.{Sent}
 use Rattle.board.specs.Reads.{itemsSent, dataReply, readBytes, readReply}
-use Rattle.board.specs.Board.{Outcome, refusedOf, silentOf, sentOf, replyOf, writeReply, obeyedIn, boardIn, boardOf}
+use Rattle.board.specs.Board.{Outcome, refusedOf, silentOf, sentOf, sentOrSilent, writeReply, obeyedIn, boardIn, boardOf}
 use Rattle.board.proofs.Sent.{length-items}
 
 -- ---- the bytes of a reply
@@ -76,7 +76,7 @@ short-refused reason m b n e = let z : _≡_ {A = ℕ} 0 1 = cc in let y : ⊥ =
 short-silent : (m : Meter) (b : List ℕ) → Short (silentOf m b)
 short-silent m b n e = let z : _≡_ {A = ℕ} 0 1 = cc in let y : ⊥ = omega arith in absurd y
 
-short-reply : (frame bytes : List ℕ) (m : Meter) (b : List ℕ) → length bytes ≤ 256 → Short (replyOf frame bytes m b)
+short-reply : (frame bytes : List ℕ) (m : Meter) (b : List ℕ) → length bytes ≤ 256 → Short (sentOrSilent frame bytes m b)
 short-reply frame bytes m b h =
     short-either (eqb (addressOf frame) 0) (silentOf m b) (sentOf bytes m b) (short-silent m b)
     (λ n e. let same : length bytes ≡ n = cc in omega (arith, h, same))

@@ -3,13 +3,14 @@
 use mathlib.Core.Path.{_≡_}
 use Prim.Native.Nat.{ℕ}
 use mathlib.Core.Bool.{_&&_, not, cond}
-use mathlib.Core.List.{List}
+use mathlib.Core.List.{List, [], _∷_}
 use lib.Dec.{ltb, eqb}
 use lib.ListN.{length}
 use lib.Seq.{sets}
 use Rattle.refusal.specs.declared.Refusal.{Refusal}
 use Rattle.refusal.specs.declared.Refusal.the-variants.{MeterOutOfLimits, BufferShort}
 use Rattle.refusal.specs.declared.ErrorCode.the-variants.{Function}
+use Rattle.refusal.specs.Numbers.{refusalNumber, refusedBy}
 use Rattle.directory.specs.Views.{View}
 use Rattle.own.specs.Own.{own}
 use Rattle.modbus.specs.Frame.{addressOf, silence, isRead, isWrite}
@@ -17,12 +18,19 @@ use Rattle.modbus.specs.Replies.{errorReply, echoReply}
 use Rattle.meter.specs.declared.Meter.{Meter}
 use Rattle.meter.specs.Meters.{meterOk}
 use Rattle.registers.specs.Shown.{shownOf}
+use Rattle.board.specs.declared.Reply.{Reply}
 use Rattle.board.specs.declared.Reply.the-variants.{Silent, Sent, Refused}
 use Rattle.board.specs.declared.Handled.{Handled}
 use Rattle.board.specs.Reads.{readReply}
 use Rattle.store.specs.declared.Verdict.{Verdict}
 use Rattle.store.specs.declared.Verdict.the-variants.{Good, Wrong}
 use Rattle.store.specs.Writes.{writtenOf}
+
+-- a reply in numbers: 0 for silence; 1 and the bytes sent; the number of the refusal
+abbrev pub replyTold : Reply → List ℕ
+replyTold Silent = 0 ∷ []
+replyTold (Sent n) = 1 ∷ n ∷ []
+replyTold (Refused reason) = refusedBy (refusalNumber reason)
 
 -- what a frame leads to: the answer with the meter's record, and the reply buffer
 pub record Outcome : Type 0 where
@@ -47,8 +55,8 @@ abbrev pub sentOf : List ℕ → Meter → List ℕ → Outcome
 sentOf bytes m buffer = record { handled = record { reply = Sent (length bytes); meter = m }; buffer = sets buffer 0 bytes }
 
 -- address 0: silence is kept always
-abbrev pub replyOf : List ℕ → List ℕ → Meter → List ℕ → Outcome
-replyOf frame bytes m buffer = cond (eqb (addressOf frame) 0) (silentOf m buffer) (sentOf bytes m buffer)
+abbrev pub sentOrSilent : List ℕ → List ℕ → Meter → List ℕ → Outcome
+sentOrSilent frame bytes m buffer = cond (eqb (addressOf frame) 0) (silentOf m buffer) (sentOf bytes m buffer)
 
 -- 5. as the write is judged: its error, or address, function, start and word number are echoed
 abbrev pub writeReply : List ℕ → Verdict → List ℕ
@@ -59,11 +67,11 @@ writeReply frame Good = echoReply frame
 abbrev pub obeyedIn : View → Meter → List ℕ → List ℕ → Outcome
 obeyedIn v m frame buffer =
     -- 3. Function neither 0x03 nor 0x10: error 01
-    cond (not (isRead frame) && not (isWrite frame)) (replyOf frame (errorReply frame Function) m buffer)
+    cond (not (isRead frame) && not (isWrite frame)) (sentOrSilent frame (errorReply frame Function) m buffer)
     -- 4. 0x03: error 03 or 02, else data
-    (cond (isRead frame) (replyOf frame (readReply v (shownOf m) frame) m buffer)
+    (cond (isRead frame) (sentOrSilent frame (readReply v (shownOf m) frame) m buffer)
     -- 5. 0x10: error 03 or 02, else the group is stored and echoed. Only a stored write alters the record
-    (replyOf frame (writeReply frame (writtenOf m frame .verdict)) (writtenOf m frame .meter) buffer))
+    (sentOrSilent frame (writeReply frame (writtenOf m frame .verdict)) (writtenOf m frame .meter) buffer))
 
 -- what the meter does with a frame, over a view: the first that applies
 unfoldable pub boardIn : View → Meter → List ℕ → List ℕ → Outcome

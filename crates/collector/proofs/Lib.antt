@@ -1,5 +1,5 @@
 pub mod Places
 pub mod Requests
 pub mod Judged
-pub mod Answers
+pub mod When
 pub mod Joins

@@ -1,2 +1,2 @@
 pub mod Collector
-pub mod Answers
+pub mod When

@@ -5,7 +5,7 @@ use mathlib.Core.Bool.{true}
 use Prim.Native.Nat.{ℕ, _≤_, _<_}
 use native.Mathlib.Nat.{div-add-mod', div-lt-iff-lt-mul, div-mul-le-self, lt-div-mul-add, mul-le-mul-left}
 use native.Mathlib.Omega.{arith}
-use borrow.Author.Tests.{le-leb}
+use borrow.Author.Tests.{le-ltb}
 use Rattle.refusal.proofs.Distinct.{one-reason-each, caseIn, numberIn}
 use Rattle.ratio.specs.declared.Ratios.{Ratios}
 use Rattle.ratio.specs.Ratios.{ratiosOk, tOf}
@@ -14,7 +14,7 @@ use Rattle.ratio.proofs.Steps.{step-laws}
 use Rattle.counts.specs.declared.WattHours.{WattHours}
 use Rattle.counts.specs.declared.Joined.{Joined}
 use Rattle.counts.specs.declared.Joined.the-variants.{Energy, Refused}
-use Rattle.counts.specs.Energies.{countOf, registerOf, wrapOf, lowOf, highOf, joinOf, joinHalvesOf, topWh, roundedOf, topCount, topLow, topHigh, joinTold, JoinSplit}
+use Rattle.counts.specs.Counting.{countOf, registerOf, wrapOf, lowOf, highOf, joinOf, joinHalvesOf, topWh, roundedOf, topCount, topLow, topHigh, joinTold, JoinSplit}
 
 wrap : (t : ℕ) (e : WattHours) → e .0 ≤ topWh → wrapOf t e < 65536
 wrap t e h =
@@ -40,12 +40,12 @@ counts-fit = record {
 counts : (r : Ratios) (e : WattHours) → ratiosOk r ≡ true → joinOf r (registerOf (tOf r) e) (wrapOf (tOf r) e) ≡ Energy (roundedOf (tOf r) e)
 unfolding joinOf
 counts r e ok =
-    simp (ok, le-leb _ _ (counts-fit .register (tOf r) e), div-add-mod' (countOf (tOf r) e) 100000000)
+    simp (ok, le-ltb topCount _ (counts-fit .register (tOf r) e), div-add-mod' (countOf (tOf r) e) 100000000)
 
 halves : (e : WattHours) → e .0 ≤ topWh → joinHalvesOf (lowOf e) (highOf e) ≡ Energy e
 unfolding joinHalvesOf
 halves e h =
-    simp (le-leb _ _ (counts-fit .low e), le-leb _ _ (counts-fit .high e h), div-add-mod' (e .0) 1000000)
+    simp (le-ltb topLow _ (counts-fit .low e), le-ltb topHigh _ (counts-fit .high e h), div-add-mod' (e .0) 1000000)
 
 pub join-split : JoinSplit
 join-split = record {

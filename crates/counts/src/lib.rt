@@ -2,7 +2,7 @@
 // these ("Collector"). The step is looked up by T, so no caller hands one in.
 ghost use mathlib.Core.Path.{_≡_};
 ghost use Prim.Native.Nat.{_≤_};
-ghost use Rattle.counts.specs.Energies.{countOf, registerOf, wrapOf, lowOf, highOf, energyOf, joinOf, joinHalvesOf};
+ghost use Rattle.counts.specs.Counting.{countOf, registerOf, wrapOf, lowOf, highOf, energyOf, joinOf, joinHalvesOf};
 use ratio::Ratios;
 use refusal::Refusal;
 
@@ -98,8 +98,9 @@ pub fn join(ratios: Ratios, count: Count, wrap: u16) -> Joined
 pub fn join_halves(low: u32, high: u32) -> Joined
     ensures { λ r. ⌜ r ≡ joinHalvesOf low high ⌝ }
 {
-    if (low <= WattHours::LOW_TOP) & (high <= WattHours::HIGH_TOP) {
-        return Joined::Energy(WattHours(high as u64 * WattHours::MEGA + low as u64));
+    if (WattHours::LOW_TOP < low) | (WattHours::HIGH_TOP < high) {
+        return Joined::Refused(Refusal::JoinPastTop);
     }
-    Joined::Refused(Refusal::JoinPastTop)
+    let wh = high as u64 * WattHours::MEGA + low as u64;
+    Joined::Energy(WattHours(wh))
 }

@@ -10,7 +10,7 @@ use lib.ListN.{getD}
 use Rattle.counts.specs.declared.WattHours.{WattHours}
 use Rattle.ratio.specs.Ratios.{ratiosOk, tOf}
 use Rattle.ratio.specs.Steps.{stepOf}
-use Rattle.counts.specs.Energies.{registerOf, wrapOf, lowOf, highOf, energyOf, topWh, roundedOf}
+use Rattle.counts.specs.Counting.{registerOf, wrapOf, lowOf, highOf, energyOf, topWh, roundedOf}
 use Rattle.counts.proofs.Joins.{join-split}
 use Rattle.directory.specs.Quantity.{quantity, energyCount, low, high, wrap}
 use Rattle.directory.specs.Views.{View, passes}
@@ -25,7 +25,7 @@ use Rattle.meter.specs.Energies.{noEnergy, valueOf}
 use Rattle.meter.specs.Meters.{givenOf, meterT, meterOk, newOf, energiesOf, energyAt}
 use Rattle.meter.proofs.Parts.{energy-rest, own-ratios}
 use Rattle.meter.proofs.Sums.{new-zero}
-use Rattle.meter.proofs.Answers.{made-within, new-blank}
+use Rattle.meter.proofs.Accepts.{made-within, new-blank}
 use Rattle.registers.proofs.Values.{energy-within, energy-most}
 use Rattle.registers.proofs.Widths.{Shows, count-shows, low-shows, high-shows, wrap-shows}
 use Rattle.demands.specs.Meaning.{countMeanings, lowMeanings, highMeanings, wrapMeanings, meanings, meaningOf}
@@ -49,19 +49,19 @@ module _ (m : Meter) (e : ℕ) (four : e < 4) where
       let which : quantity k e % 64 ≡ e = omega (arith, four) in
       rw (kind, which, same) (mapped f (energiesOf m) noEnergy (read.Plain 0) e four)
 
-  count-means : meaningOf m (energyCount e) ≡ read.Energy (registerOf (meterT m) wh) (stepOf (meterT m)) (energyOf (meterT m) (registerOf (meterT m) wh .0))
+  count-means : meaningOf m (quantity energyCount e) ≡ read.Energy (registerOf (meterT m) wh) (stepOf (meterT m)) (energyOf (meterT m) (registerOf (meterT m) wh .0))
   unfolding countMeanings
   count-means = one-means 5 (λ (x : Energy). read.Energy (registerOf (meterT m) (x .wh)) (stepOf (meterT m)) (energyOf (meterT m) (registerOf (meterT m) (x .wh) .0))) refl
 
-  low-means : meaningOf m (low e) ≡ read.Low (lowOf wh)
+  low-means : meaningOf m (quantity low e) ≡ read.Low (lowOf wh)
   unfolding lowMeanings
   low-means = one-means 6 (λ (x : Energy). read.Low (lowOf (x .wh))) refl
 
-  high-means : meaningOf m (high e) ≡ read.High (highOf wh)
+  high-means : meaningOf m (quantity high e) ≡ read.High (highOf wh)
   unfolding highMeanings
   high-means = one-means 7 (λ (x : Energy). read.High (highOf (x .wh))) refl
 
-  wrap-means : meaningOf m (wrap e) ≡ read.Wrap (wrapOf (meterT m) wh)
+  wrap-means : meaningOf m (quantity wrap e) ≡ read.Wrap (wrapOf (meterT m) wh)
   unfolding wrapMeanings
   wrap-means = one-means 8 (λ (x : Energy). read.Wrap (wrapOf (meterT m) (x .wh))) refl
 
@@ -119,19 +119,19 @@ module _ (v : View) (good : T (passes v)) where
           ∙ collects v good m (p .request) (p .buffer) meets (p .asks) (p .index) (p .below) (rw (p .shows) shows)
           ∙ ap (λ (x : ℕ). Reading (meaningOf m x)) (p .shows)
 
-      counts : (p : Poll v (h .address) (energyCount e)) → collected v (h .ratios) m p ≡ Reading (read.Energy (registerOf t whole) (stepOf t) (energyOf t (registerOf t whole .0)))
+      counts : (p : Poll v (h .address) (quantity energyCount e)) → collected v (h .ratios) m p ≡ Reading (read.Energy (registerOf t whole) (stepOf t) (energyOf t (registerOf t whole .0)))
       counts p =
           polled p (count-shows m (now .within) e four)
           ∙ ap Reading (count-means m e four)
           ∙ (λ i. Reading (read.Energy (registerOf (same-t i) (same i)) (stepOf (same-t i)) (energyOf (same-t i) (registerOf (same-t i) (same i) .0))))
 
-      wraps : (p : Poll v (h .address) (wrap e)) → collected v (h .ratios) m p ≡ Reading (read.Wrap (wrapOf t whole))
+      wraps : (p : Poll v (h .address) (quantity wrap e)) → collected v (h .ratios) m p ≡ Reading (read.Wrap (wrapOf t whole))
       wraps p = polled p (wrap-shows m (now .within) e four) ∙ ap Reading (wrap-means m e four) ∙ (λ i. Reading (read.Wrap (wrapOf (same-t i) (same i))))
 
-      lows : (p : Poll v (h .address) (low e)) → collected v (h .ratios) m p ≡ Reading (read.Low (lowOf whole))
+      lows : (p : Poll v (h .address) (quantity low e)) → collected v (h .ratios) m p ≡ Reading (read.Low (lowOf whole))
       lows p = polled p (low-shows m (now .within) e four) ∙ ap Reading (low-means m e four) ∙ (λ i. Reading (read.Low (lowOf (same i))))
 
-      highs : (p : Poll v (h .address) (high e)) → collected v (h .ratios) m p ≡ Reading (read.High (highOf whole))
+      highs : (p : Poll v (h .address) (quantity high e)) → collected v (h .ratios) m p ≡ Reading (read.High (highOf whole))
       highs p = polled p (high-shows m (now .within) e four) ∙ ap Reading (high-means m e four) ∙ (λ i. Reading (read.High (highOf (same i))))
 
     -- ---- joined
@@ -139,7 +139,7 @@ module _ (v : View) (good : T (passes v)) where
     ratios-ok : ratiosOk (h .ratios) ≡ true
     ratios-ok = ap (λ (g : Given). ratiosOk (g .ratios)) (sym (then .given)) ∙ own-ratios (sooner v h) (then .within)
 
-    register-read : (m n : Meter) → Moment m → Moment n → (r : Poll v (h .address) (energyCount e)) (w : Poll v (h .address) (wrap e)) → RegisterRead v h e (collected v (h .ratios) m r) (collected v (h .ratios) n w)
+    register-read : (m n : Meter) → Moment m → Moment n → (r : Poll v (h .address) (quantity energyCount e)) (w : Poll v (h .address) (quantity wrap e)) → RegisterRead v h e (collected v (h .ratios) m r) (collected v (h .ratios) n w)
     register-read m n now thereafter r w = record {
       count = registerOf t whole;
       turns = wrapOf t whole;
@@ -150,7 +150,7 @@ module _ (v : View) (good : T (passes v)) where
       bounds = record { above = omega (arith, join-split .above t whole); below = omega (arith, join-split .below t whole) };
     }
 
-    halves-read : (m n : Meter) → Moment m → Moment n → (l : Poll v (h .address) (low e)) (u : Poll v (h .address) (high e)) → HalvesRead v h e (collected v (h .ratios) m l) (collected v (h .ratios) n u)
+    halves-read : (m n : Meter) → Moment m → Moment n → (l : Poll v (h .address) (quantity low e)) (u : Poll v (h .address) (quantity high e)) → HalvesRead v h e (collected v (h .ratios) m l) (collected v (h .ratios) n u)
     halves-read m n now thereafter l u =
         let most : exactAt v e h / 360000 ≤ topWh = rw (sym (ap (λ (x : WattHours). x .0) (same m now))) (energy-most m e (now .within)) in
         record {
@@ -164,10 +164,10 @@ module _ (v : View) (good : T (passes v)) where
         }
 
   pub demand-3 : Demand3 v
-  demand-3 = record {
-    register-first = λ h e four r w. register-read h e four (sooner v h) (later v h) (then h e four) (last h e four) r w;
-    wrap-first = λ h e four r w. register-read h e four (later v h) (sooner v h) (last h e four) (then h e four) r w;
-    low-first = λ h e four l u. halves-read h e four (sooner v h) (later v h) (then h e four) (last h e four) l u;
-    high-first = λ h e four l u. halves-read h e four (later v h) (sooner v h) (last h e four) (then h e four) l u;
-    still = λ h e. idle-adds v good e (sooner v h) (h .between) (h .idle);
+  demand-3 h e four = record {
+    register-first = register-read h e four (sooner v h) (later v h) (then h e four) (last h e four);
+    wrap-first = register-read h e four (later v h) (sooner v h) (last h e four) (then h e four);
+    low-first = halves-read h e four (sooner v h) (later v h) (then h e four) (last h e four);
+    high-first = halves-read h e four (later v h) (sooner v h) (last h e four) (then h e four);
+    still = idle-adds v good e (sooner v h) (h .between) (h .idle);
   }

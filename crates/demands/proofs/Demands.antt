@@ -12,10 +12,10 @@ use Rattle.directory.proofs.Sends.{run-sends}
 use Rattle.modbus.proofs.Judged.{read-when}
 use Rattle.reading.proofs.Told.{one-answer-each}
 use Rattle.reading.proofs.Thirteen.{thirteen-when}
-use Rattle.collector.proofs.Answers as collector
+use Rattle.collector.proofs.When as collector
 use Rattle.collector.proofs.Joins.{joins-when}
 use Rattle.meter.proofs.Parts.{zero-to-neither}
-use Rattle.meter.proofs.Answers.{new-answers, sample-answers, setup-idle}
+use Rattle.meter.proofs.Accepts.{new-answers, sample-answers, setup-idle}
 use Rattle.store.proofs.Verdicts.{write-when}
 use Rattle.registers.proofs.Widths.{every-case, setup-unseen}
 use Rattle.demands.specs.Demands.{Demand1, Ground, Replies, Readings, Demand2, Demands}
@@ -62,7 +62,7 @@ ground = record {
 pub replies : Replies
 replies = record {
   new-meters = new-answers;
-  frames = board.exactly-when;
+  frames = board.frames-when;
   obeys = board.obeys;
   whole = board.replies-sealed;
   reads = read-when;
@@ -75,7 +75,7 @@ replies = record {
 
 pub readings : Readings
 readings = record {
-  answers = collector.exactly-when;
+  answers = collector.replies-when;
   impossible = thirteen-when;
   joins = joins-when;
   split = join-split;

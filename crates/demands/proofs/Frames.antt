@@ -24,8 +24,8 @@ use Rattle.meter.specs.Meters.{meterOk}
 use Rattle.board.specs.declared.Reply.{Reply}
 use Rattle.board.specs.declared.Reply.the-variants.{Silent, Sent, Refused}
 use Rattle.store.specs.Writes.{storedOf, verdictTold}
-use Rattle.board.specs.Board.{Outcome, boardIn}
-use Rattle.demands.specs.Frames.{Heeds, Answers, Errs, ReadErrs, WriteErrs, Quiet, Stores, replyTold, Comes, Rows, ExactlyWhen, Obeys, Untouched, RepliesSealed, BufferUnseen}
+use Rattle.board.specs.Board.{Outcome, replyTold, boardIn}
+use Rattle.demands.specs.Frames.{Heeds, Answers, SendsError, ReadErrs, WriteErrs, Quiet, Stores, FrameGives, FramesWhen, Obeys, Untouched, RepliesSealed, BufferUnseen}
 use Rattle.board.proofs.Lengths.{board-short}
 use Rattle.board.proofs.Cases.{board-1, board-2, board-silent}
 use Rattle.store.proofs.Verdicts.{write-when, write-within}
@@ -76,7 +76,7 @@ module _ (v : View) (good : T (passes v)) where
       by-record : n ≡ 1 → meterOk m ≡ false → Refuses n
       by-buffer : n ≡ 2 → meterOk m ≡ true → length b < 256 → Refuses n
 
-    refuses : Case v m frame b → (n : ℕ) → Comes v m frame b (refusedBy n) → Refuses n
+    refuses : Case v m frame b → (n : ℕ) → FrameGives v m frame b (refusedBy n) → Refuses n
     refuses (out h e) n r = by-record (sym (ap numberIn (told-as e r))) h
     refuses (short h k e) n r = by-buffer (sym (ap numberIn (told-as e r))) h k
     refuses (unheard h k q e) n r = absurd (omega (arith, ap caseIn (told-as e r)))
@@ -113,7 +113,7 @@ module _ (v : View) (good : T (passes v)) where
   -- ---- error codes
 
   module _ (m : Meter) (frame b : List ℕ) (code : ErrorCode) where
-    errs-to : Case v m frame b → Errs v (errorNumber code) m frame b → Answers m frame b × Faults v good code m frame
+    errs-to : Case v m frame b → SendsError v m frame b (errorNumber code) → Answers m frame b × Faults v good code m frame
     errs-to (out h e) r = apart (λ z. omega arith) (ap said (sym e ∙ r))
     errs-to (short h k e) r = apart (λ z. omega arith) (ap said (sym e ∙ r))
     errs-to (unheard h k q e) r = apart (λ z. omega arith) (ap said (sym e ∙ r))
@@ -122,7 +122,7 @@ module _ (v : View) (good : T (passes v)) where
         let room = a .heeds .room in
         (a, faults v good m frame bytes n code g (sent-same bytes (errorReply frame code) n m b (omega (arith, gives-long v good m frame bytes n g)) (omega (arith, five frame code)) (sym e ∙ r)))
 
-    errs-from : Answers m frame b → ReadErrs v code frame ⊎ WriteErrs code m frame → Errs v (errorNumber code) m frame b
+    errs-from : Answers m frame b → ReadErrs v code frame ⊎ WriteErrs code m frame → SendsError v m frame b (errorNumber code)
     errs-from a (inl r) = gives-sent v good m frame b a (errorReply frame code) m (misread code (r .0) (r .1) refl refl)
     errs-from a (inr w) = gives-sent v good m frame b a (errorReply frame code) m (miswritten code (w .0) (w .1) refl refl)
 
@@ -132,22 +132,22 @@ module _ (v : View) (good : T (passes v)) where
     named n (bad-read h) = inl h
     named n (bad-write h) = inr h
 
-    errs-when : (Function ≡ code → ⊥) → Errs v (errorNumber code) m frame b ↔ (Answers m frame b × (ReadErrs v code frame ⊎ WriteErrs code m frame))
+    errs-when : (Function ≡ code → ⊥) → SendsError v m frame b (errorNumber code) ↔ (Answers m frame b × (ReadErrs v code frame ⊎ WriteErrs code m frame))
     errs-when n = (λ h. let t = errs-to (case v m frame b) h in (t .0, named n (t .1)), λ h. errs-from (h .0) (h .1))
 
   -- 01 is due to neither
   no-function : (m : Meter) (frame : List ℕ) → Faults v good Function m frame → (isRead frame ≡ false) × (isWrite frame ≡ false)
   no-function m frame (unknown r w e) = (r, w)
-  no-function m frame (bad-read h) = absurd (read-when .never v frame (h .1))
-  no-function m frame (bad-write h) = absurd (neither (write-when .only m frame 1 (ap verdictTold (h .1))))
+  no-function m frame (bad-read h) = absurd (read-when v frame .never (h .1))
+  no-function m frame (bad-write h) = absurd (neither (write-when m frame .only 1 (ap verdictTold (h .1))))
     where
       neither : (errorNumber Function ≡ 2) ⊎ (errorNumber Function ≡ 3) → ⊥
       neither (inl e) = omega (arith, e)
       neither (inr e) = omega (arith, e)
 
   module _ (m : Meter) (frame b : List ℕ) where
-    rows : Rows v m frame b
-    rows = record {
+    pub frames-when : FramesWhen v m frame b
+    frames-when = record {
       row-1 = (λ h. row-1 m frame b (refuses m frame b (case v m frame b) 1 h), λ h. ap (λ (o : Outcome). replyTold (said o)) (sym (board-1 v m frame b h)));
       row-2 = (λ h. row-2 m frame b (refuses m frame b (case v m frame b) 2 h), λ h. ap (λ (o : Outcome). replyTold (said o)) (sym (board-2 v m frame b (h .0) (lt-ltb _ _ (h .1)))));
       only = λ n h. only m frame b n (refuses m frame b (case v m frame b) n h);
@@ -160,16 +160,13 @@ module _ (v : View) (good : T (passes v)) where
       error-03 = errs-when m frame b Data (λ e. let z : 1 ≡ 3 = ap errorNumber e in omega arith);
     }
 
-  pub exactly-when : ExactlyWhen v
-  exactly-when = record { rows = rows }
-
-  pub obeys : Obeys v
-  obeys =
-      record {
-        reads = λ m frame b first count a r s. gives-sent v good m frame b a _ m (shows first count r s refl refl);
-        writes = λ m frame b a w. gives-sent v good m frame b a _ _ (stores (w .0) (w .1) refl refl);
-        for-all = λ m frame b h z w. gives-quiet v good m frame b h z _ _ (stores (w .0) (w .1) refl refl);
-      }
+    pub obeys : Obeys v m frame b
+    obeys =
+        record {
+          reads = λ first count a r s. gives-sent v good m frame b a _ m (shows first count r s refl refl);
+          writes = λ a w. gives-sent v good m frame b a _ _ (stores (w .0) (w .1) refl refl);
+          for-all = λ h z w. gives-quiet v good m frame b h z _ _ (stores (w .0) (w .1) refl refl);
+        }
 
   -- ---- what stays as it was
 
@@ -240,33 +237,33 @@ module _ (v : View) (good : T (passes v)) where
     altered (for-all bytes n h z g e) = rw e (gives-kept m frame b bytes n h g)
     altered (for-one bytes n a g e) = rw e (gives-kept m frame b bytes n (a .heeds) g)
 
-  pub untouched : Untouched v
-  untouched =
-      record {
-        refused = λ m frame b. refused m frame b (case v m frame b);
-        unheard = λ m frame b. unheeded m frame b (case v m frame b);
-        silent = λ m frame b. silent m frame b (case v m frame b);
-        beyond = λ m frame b n h. beyond m frame b n (sent m frame b (case v m frame b) n h);
-        altered = λ m frame b. altered m frame b (case v m frame b);
-        for-all = λ m frame b n z h. sent m frame b (case v m frame b) n h .answers .own z;
-      }
+    pub untouched : Untouched v m frame b
+    untouched =
+        record {
+          refused = refused (case v m frame b);
+          unheard = unheeded (case v m frame b);
+          silent = silent (case v m frame b);
+          beyond = λ n h. beyond n (sent (case v m frame b) n h);
+          altered = altered (case v m frame b);
+          for-all = λ n z h. sent (case v m frame b) n h .answers .own z;
+        }
 
-  pub replies-sealed : RepliesSealed v
-  replies-sealed =
-      record {
-        long = λ m frame b n h. board-short v good m frame b n h;
-        whole = λ m frame b n h. let s = sent m frame b (case v m frame b) n h in ap intact (front m frame b n s) ∙ gives-whole v good m frame (s .bytes) (s .next) (s .gives);
-      }
+    pub replies-sealed : RepliesSealed v m frame b
+    replies-sealed =
+        record {
+          long = board-short v good m frame b;
+          whole = λ n h. let s = sent (case v m frame b) n h in ap intact (front n s) ∙ gives-whole v good m frame (s .bytes) (s .next) (s .gives);
+        }
 
   -- ---- within limits
 
   kept-within : (m : Meter) (frame b : List ℕ) (n : Meter) → meterOk m ≡ true → Kept m frame b n → meterOk n ≡ true
   kept-within m frame b n h (inl e) = ap meterOk e ∙ h
-  kept-within m frame b n h (inr s) = ap meterOk (s .2 ∙ sym (write-when .stored m frame (s .1 .1))) ∙ write-within m frame h
+  kept-within m frame b n h (inr s) = ap meterOk (s .2 ∙ sym (write-when m frame .stored (s .1 .1))) ∙ write-within m frame h
 
   -- a frame keeps a record within limits
   pub frame-within : (m : Meter) (frame b : List ℕ) → meterOk m ≡ true → meterOk (boardIn v m frame b .handled .meter) ≡ true
-  frame-within m frame b h = kept-within m frame b _ h (untouched .altered m frame b)
+  frame-within m frame b h = kept-within m frame b _ h (untouched m frame b .altered)
 
   -- ---- the buffer is not seen
 
@@ -294,9 +291,9 @@ module _ (v : View) (good : T (passes v)) where
         let there : Reply-sent m frame b n = record { bytes = s .bytes; next = s .next; answers = own-moved (s .answers); gives = s .gives; long = s .long; after = ap (λ (o : Outcome). o .buffer) e } in
         front m frame a n s ∙ sym (front m frame b n there)
 
-  pub buffer-unseen : BufferUnseen v
-  buffer-unseen =
+  pub buffer-unseen : (m : Meter) (frame b : List ℕ) → BufferUnseen v m frame b
+  buffer-unseen m frame b =
       record {
-        same = λ m frame a b ra rb. same m frame a b ra rb (case v m frame a);
-        bytes = λ m frame a b n ra rb. bytes-same m frame a b ra rb n;
+        same = λ a ra rb. same m frame a b ra rb (case v m frame a);
+        bytes = λ a n ra rb. bytes-same m frame a b ra rb n;
       }

@@ -23,7 +23,7 @@ use Rattle.board.specs.Reads.{itemsSent, dataReply, readBytes, readReply}
 use Rattle.store.specs.declared.Verdict.{Verdict}
 use Rattle.store.specs.declared.Verdict.the-variants.{Good, Wrong}
 use Rattle.store.specs.Writes.{storedOf, writtenOf}
-use Rattle.board.specs.Board.{refusedOf, silentOf, sentOf, replyOf, writeReply, obeyedIn, boardIn}
+use Rattle.board.specs.Board.{refusedOf, silentOf, sentOf, sentOrSilent, writeReply, obeyedIn, boardIn}
 use Rattle.demands.specs.Frames.{Heeds, Answers}
 use Rattle.board.proofs.Cases.{board-1, board-2, board-silent, board-obeys, obeys-other, obeys-read, obeys-write}
 use Rattle.store.proofs.Verdicts.{write-when}
@@ -42,7 +42,7 @@ module _ (v : View) where
     bytes : List ℕ
     next : Meter
     gives : Gives m frame bytes next
-    obeyed : replyOf frame bytes next b ≡ obeyedIn v m frame b
+    obeyed : sentOrSilent frame bytes next b ≡ obeyedIn v m frame b
 
   module _ (m : Meter) (frame b : List ℕ) where
     given-read : isRead frame ≡ true → (span : Span) → readIn v frame ≡ span → Given m frame b
@@ -58,14 +58,14 @@ module _ (v : View) where
         record {
           bytes = writeReply frame (writtenOf m frame .verdict);
           next = writtenOf m frame .meter;
-          gives = miswritten code w e (ap (writeReply frame) e) (write-when .kept m frame code e);
+          gives = miswritten code w e (ap (writeReply frame) e) (write-when m frame .kept code e);
           obeyed = obeys-write v m frame b w;
         }
     given-write w Good e =
         record {
           bytes = writeReply frame (writtenOf m frame .verdict);
           next = writtenOf m frame .meter;
-          gives = stores w e (ap (writeReply frame) e) (write-when .stored m frame e);
+          gives = stores w e (ap (writeReply frame) e) (write-when m frame .stored e);
           obeyed = obeys-write v m frame b w;
         }
 
@@ -97,9 +97,9 @@ module _ (v : View) where
       by-tests true false true z h k i j = unheard h (ltb-false _ _ k) i (sym (board-silent v m frame b h k i))
       by-tests true false false true h k i j =
           let heeds : Heeds m frame b = record { within = h; room = ltb-false _ _ k; heard = i } in
-          let quiet : silentOf (g .next) b ≡ replyOf frame (g .bytes) (g .next) b = rw j refl in
+          let quiet : silentOf (g .next) b ≡ sentOrSilent frame (g .bytes) (g .next) b = rw j refl in
           for-all (g .bytes) (g .next) heeds (eqb-true _ _ j) (g .gives) (sym (quiet ∙ g .obeyed ∙ board-obeys v m frame b h k i))
       by-tests true false false false h k i j =
           let heeds : Heeds m frame b = record { within = h; room = ltb-false _ _ k; heard = i } in
-          let said : sentOf (g .bytes) (g .next) b ≡ replyOf frame (g .bytes) (g .next) b = rw j refl in
+          let said : sentOf (g .bytes) (g .next) b ≡ sentOrSilent frame (g .bytes) (g .next) b = rw j refl in
           for-one (g .bytes) (g .next) (record { heeds = heeds; own = eqb-false _ _ j }) (g .gives) (sym (said ∙ g .obeyed ∙ board-obeys v m frame b h k i))

@@ -18,7 +18,7 @@ use Rattle.meter.specs.After.{nextOf, meterWithinTop, afterOf}
 use Rattle.meter.specs.Carried.{carriesFor}
 use Rattle.meter.proofs.Cases.{chosen}
 use Rattle.meter.proofs.Sums.{after-adds}
-use Rattle.meter.proofs.Answers.{sample-within}
+use Rattle.meter.proofs.Accepts.{sample-within}
 use Rattle.store.specs.Writes.{replacedIn, storedOf}
 use Rattle.board.specs.Board.{boardIn}
 use Rattle.demands.specs.Frames.{Heeds, Stores}
@@ -53,7 +53,7 @@ module _ (v : View) (good : T (passes v)) where
     altered-unseen m frame b n (inr s) = ap see (s .2) ∙ blind m (replacedIn (m .setup) frame)
 
     frame-unseen : (m : Meter) (frame b : List ℕ) → see (boardIn v m frame b .handled .meter) ≡ see m
-    frame-unseen m frame b = altered-unseen m frame b _ (untouched v good .altered m frame b)
+    frame-unseen m frame b = altered-unseen m frame b _ (untouched v good m frame b .altered)
 
   event-within : (m : Meter) (x : Event) → meterOk m ≡ true → meterOk (afterEvent v m x) ≡ true
   event-within m (Event.sample s) h = sample-within m s h

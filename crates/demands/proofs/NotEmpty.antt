@@ -16,7 +16,7 @@ use Rattle.meter.specs.declared.given.Given.{Given}
 use Rattle.meter.specs.declared.Meter.{Meter}
 use Rattle.meter.specs.Samples.{noSample}
 use Rattle.meter.specs.Meters.{givenOf, newOf}
-use Rattle.meter.proofs.Answers.{made-within, new-blank}
+use Rattle.meter.proofs.Accepts.{made-within, new-blank}
 use Rattle.demands.specs.Meaning.{meaningOf}
 use Rattle.demands.specs.RoundTrip.{replyTo, Meets}
 use Rattle.demands.specs.Polled.{requestFor}

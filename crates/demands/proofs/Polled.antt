@@ -53,7 +53,7 @@ module _ (v : View) (good : T (passes v)) where
     pub items : readIn v request ≡ Items i 1
     items =
         let narrow = ruled-narrow (v .seen) (passes-ruled v good) i l in
-        read-when .items v request i 1 .1 (
+        read-when v request .items i 1 .1 (
           refl,
           rw number (rw (le-ltb (it .words) 1 (narrow .some), le-ltb (v .most) (it .words) (omega (arith, narrow .few, passes-long v good))) refl),
           rw (start, number) (alone i (it .start) it refl (directory-rules .found (v .seen) (passes-tested v good) i l) (it .words) refl (narrow .some) (narrow .few)),

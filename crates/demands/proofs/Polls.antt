@@ -36,7 +36,7 @@ use Rattle.store.proofs.Verdicts.{write-when}
 use Rattle.registers.specs.Shown.{shownOf}
 use Rattle.registers.proofs.Widths.{Shows, in-room, typed-shows}
 use Rattle.reading.specs.declared.Answer.the-variants.{Reading}
-use Rattle.reading.specs.Cases.{told}
+use Rattle.reading.specs.Told.{told}
 use Rattle.reading.specs.Readings.{readingOf}
 use Rattle.board.specs.Reads.{itemsSent, dataReply}
 use Rattle.board.specs.Board.{Outcome}
@@ -48,10 +48,10 @@ use Rattle.demands.proofs.Gives.Case.{out, short, unheard, for-all, for
 use Rattle.demands.proofs.Replies.{gives-long, gives-whole, sent-front, echo-function}
 use Rattle.demands.proofs.Frames.{obeys}
 use Rattle.collector.specs.Collector.{heard, isReadError, placeOf, collectorIn}
-use Rattle.collector.specs.Answers.{Asks, Asked, Fits, itemAt, valueIn, Comes}
+use Rattle.collector.specs.When.{Asks, Asked, Fits, itemAt, valueIn, ReplyGives}
 use Rattle.collector.proofs.Requests.{Hears, hears, heard-so}
 use Rattle.collector.proofs.Places.{run-length, run-at}
-use Rattle.collector.proofs.Answers.{exactly-when}
+use Rattle.collector.proofs.When.{replies-when}
 use Rattle.demands.specs.Meaning.{meaningOf}
 use Rattle.demands.proofs.Shown.{item-read}
 use Rattle.demands.specs.RoundTrip.{replyIn, replyTo, Meets, WithData, RoundTrip}
@@ -109,7 +109,7 @@ module _ (v : View) (good : T (passes v)) where
 
     pub replies : replyTo v m request b ≡ reply
     replies =
-        let o = obeys v good .reads m request b (a .first) (a .count) answers (h .read) (a .items) in
+        let o = obeys v good m request b .reads (a .first) (a .count) answers (h .read) (a .items) in
         ap (λ (x : Outcome). replyIn (x .handled .reply) (x .buffer)) o ∙ sent-front reply b (omega (arith, gives-long v good m request reply m gives, meets .room))
 
     -- ---- as the collector judges it
@@ -181,7 +181,7 @@ module _ (v : View) (good : T (passes v)) where
       reads : Shows m (it .quantity) → collectorIn v request reply (m .given .ratios) index ≡ Reading (meaningOf m (it .quantity))
       unfolding fits
       reads fit =
-          exactly-when v good .rows request reply (m .given .ratios) index .reading (meaningOf m (it .quantity)) .1
+          replies-when v good request reply (m .given .ratios) index .reading (meaningOf m (it .quantity)) .1
           (record {
             holds = record { fits = fits; below = below };
             reading = ap (readingOf (meterT m) it) (value-back fit) ∙ item-read (v .seen) (passes-tested v good) m (meets .within) (a .first + index) known fit;
@@ -191,15 +191,15 @@ module _ (v : View) (good : T (passes v)) where
       pub collects : Shows m (it .quantity) → collectorIn v request (replyTo v m request b) (m .given .ratios) index ≡ Reading (meaningOf m (it .quantity))
       collects fit = ap (λ (x : List ℕ). collectorIn v request x (m .given .ratios) index) replies ∙ reads fit
 
-    pub past : (index : ℕ) → a .count ≤ index → Comes v request reply (m .given .ratios) index (refusedBy 12)
+    pub past : (index : ℕ) → a .count ≤ index → ReplyGives v request reply (m .given .ratios) index (refusedBy 12)
     unfolding fits
-    past index over = exactly-when v good .rows request reply (m .given .ratios) index .row-12 .1 (record { fits = fits; past = over })
+    past index over = replies-when v good request reply (m .given .ratios) index .row-12 .1 (record { fits = fits; past = over })
 
   -- ---- an error reply to such a request
 
-  error-given : (request : List ℕ) (r : Ratios) (index code : ℕ) → Asked v request r → 1 ≤ code → code ≤ 3 → Comes v request (errorBytes request code) r index (errorBy code)
+  error-given : (request : List ℕ) (r : Ratios) (index code : ℕ) → Asked v request r → 1 ≤ code → code ≤ 3 → ReplyGives v request (errorBytes request code) r index (errorBy code)
   error-given request r index code asked some most =
-      exactly-when v good .rows request reply r index .error code .1
+      replies-when v good request reply r index .error code .1
       (record {
         sound = record {
           asked = asked;
@@ -237,7 +237,7 @@ module _ (v : View) (good : T (passes v)) where
         let loud : silence (addressOf request) request ≡ false = rw (sym (meets .own)) (ans .heeds .heard) in
         record { hears = heard-so request (record { own = ans .own; read = r; loud = loud }); first = first; count = count; items = s }
     from-data bytes n ans h (miswritten code w j e k) = no-error request bytes code e h
-    from-data bytes n ans h (stores w j e k) = no-echo request bytes (omega (arith, shaped-length request (write-when .legal m request .0 j .0) .0)) w e h
+    from-data bytes n ans h (stores w j e k) = no-echo request bytes (omega (arith, shaped-length request (write-when m request .legal .0 j .0) .0)) w e h
 
     from-reply : isRead (replyTo v m request b) ≡ true → Case v m request b → Asks v request
     from-reply h (out w e) = absurd (false≢true (sym w ∙ meets .within))
@@ -257,5 +257,5 @@ module _ (v : View) (good : T (passes v)) where
     reads = λ m request b index typed meets a below. collects m request b meets a index below (typed-shows (v .seen) (passes-tested v good) (a .first + index) (known m request b meets a index below) m typed (meets .within));
     past = λ m request b index meets a over. ap (λ (reply : List ℕ). told (collectorIn v request reply (m .given .ratios) index)) (replies m request b meets a) ∙ past m request b meets a index over;
     error = error-given;
-    other = λ m request b reply r index meets ok h. exactly-when v good .rows request reply r index .row-7 .1 (ok, λ a. false≢true (sym h ∙ with-data .same m request b meets .0 a));
+    other = λ m request b reply r index meets ok h. replies-when v good request reply r index .row-7 .1 (ok, λ a. false≢true (sym h ∙ with-data .same m request b meets .0 a));
   }

@@ -26,7 +26,7 @@ use Rattle.meter.specs.declared.Meter.{Meter}
 use Rattle.registers.specs.Shown.{shownOf}
 use Rattle.board.specs.declared.Reply.the-variants.{Sent}
 use Rattle.board.specs.Reads.{itemsSent, dataReply, readBytes}
-use Rattle.board.specs.Board.{Outcome, silentOf, sentOf, replyOf, obeyedIn, boardIn}
+use Rattle.board.specs.Board.{Outcome, silentOf, sentOf, sentOrSilent, obeyedIn, boardIn}
 use Rattle.demands.specs.Frames.{Heeds, Answers, ReadErrs, WriteErrs}
 use Rattle.board.proofs.Lengths.{echo-long, data-long}
 use Rattle.board.proofs.Cases.{board-obeys, obeys-other, obeys-read, obeys-write}
@@ -90,16 +90,16 @@ module _ (v : View) (good : T (passes v)) where
     obeyed : Heeds m frame b → boardIn v m frame b ≡ obeyedIn v m frame b
     obeyed h = sym (board-obeys v m frame b (h .within) (le-ltb _ _ (h .room)) (h .heard))
 
-    pub gives-reply : Heeds m frame b → (bytes : List ℕ) (n : Meter) → Gives v m frame bytes n → boardIn v m frame b ≡ replyOf frame bytes n b
+    pub gives-reply : Heeds m frame b → (bytes : List ℕ) (n : Meter) → Gives v m frame bytes n → boardIn v m frame b ≡ sentOrSilent frame bytes n b
     gives-reply h bytes n (other r w e k) = rw (e, k) (obeyed h ∙ sym (obeys-other v m frame b r w))
-    gives-reply h bytes n (misread code r s e k) = rw (e, k) (obeyed h ∙ sym (obeys-read v m frame b r) ∙ ap (λ (x : List ℕ). replyOf frame x m b) (ap (readBytes v (shownOf m) frame) s))
-    gives-reply h bytes n (shows first count r s e k) = rw (e, k) (obeyed h ∙ sym (obeys-read v m frame b r) ∙ ap (λ (x : List ℕ). replyOf frame x m b) (ap (readBytes v (shownOf m) frame) s))
+    gives-reply h bytes n (misread code r s e k) = rw (e, k) (obeyed h ∙ sym (obeys-read v m frame b r) ∙ ap (λ (x : List ℕ). sentOrSilent frame x m b) (ap (readBytes v (shownOf m) frame) s))
+    gives-reply h bytes n (shows first count r s e k) = rw (e, k) (obeyed h ∙ sym (obeys-read v m frame b r) ∙ ap (λ (x : List ℕ). sentOrSilent frame x m b) (ap (readBytes v (shownOf m) frame) s))
     gives-reply h bytes n (miswritten code w j e k) =
         let o = obeyed h ∙ sym (obeys-write v m frame b w) in
-        rw (e, k) (o ∙ rw (write-when .kept m frame code j, j) refl)
+        rw (e, k) (o ∙ rw (write-when m frame .kept code j, j) refl)
     gives-reply h bytes n (stores w j e k) =
         let o = obeyed h ∙ sym (obeys-write v m frame b w) in
-        rw (e, k) (o ∙ rw (write-when .stored m frame j, j) refl)
+        rw (e, k) (o ∙ rw (write-when m frame .stored j, j) refl)
 
     pub gives-sent : Answers m frame b → (bytes : List ℕ) (n : Meter) → Gives v m frame bytes n → boardIn v m frame b ≡ sentOf bytes n b
     gives-sent a bytes n g = gives-reply (a .heeds) bytes n g ∙ rw (ne-eqb (addressOf frame) 0 (a .own)) refl
@@ -141,4 +141,4 @@ module _ (v : View) (good : T (passes v)) where
       not-data frame (itemsSent (shownOf m) (runItems (v .seen) first count)) code (sym e ∙ h)
   faults m frame bytes n code (miswritten c w j e k) h = bad-write (w, j ∙ ap Wrong (one-code frame c code (sym e ∙ h)))
   faults m frame bytes n code (stores w j e k) h =
-      not-echo frame code (omega (arith, shaped-length frame (write-when .legal m frame .0 j .0) .0)) (sym e ∙ h)
+      not-echo frame code (omega (arith, shaped-length frame (write-when m frame .legal .0 j .0) .0)) (sym e ∙ h)

@@ -24,7 +24,7 @@ use Rattle.meter.specs.declared.Meter.{Meter}
 use Rattle.meter.specs.Samples.{factorOf}
 use Rattle.meter.specs.Meters.{meterT, meterOk, energyAt}
 use Rattle.meter.proofs.Parts.{SampleParts, sample-parts, meter-parts, ratio-parts}
-use Rattle.registers.specs.Shown.{powersOf, powerAt, powerValues, signedValues, signValues, countValues, lowValues, highValues, wrapValues, factorValues, plainValues, valuesOf, shownOf}
+use Rattle.registers.specs.Shown.{powersOf, powerAt, powerValues, signedWordValues, signValues, countValues, lowValues, highValues, wrapValues, factorValues, plainValues, kindsShown, shownOf}
 use Rattle.registers.proofs.Values.{count-at, low-at, high-at, energy-most, signed-at, sign-at, power-most}
 use Rattle.registers.proofs.Widths.{Shows, in-room}
 use Rattle.reading.specs.declared.Quantity.{Quantity}
@@ -88,10 +88,10 @@ unsigned-zero (negsuc n) = ap (λ (t : Bool). record { negative = t; magnitude =
 
 module _ (m : Meter) where
   abbrev ReadAt : ℕ → ℕ → Type 0
-  ReadAt k w = answerOf (meterT m) k w (getD (getD (valuesOf m) k []) w 0) ≡ Reading (getD (getD (meanings m) k []) w (read.Plain 0))
+  ReadAt k w = answerOf (meterT m) k w (getD (getD (kindsShown m) k []) w 0) ≡ Reading (getD (getD (meanings m) k []) w (read.Plain 0))
 
   abbrev ReadKind : ℕ → Type 0
-  ReadKind k = (w : ℕ) → w < length (getD (valuesOf m) k []) → ReadAt k w
+  ReadKind k = (w : ℕ) → w < length (getD (kindsShown m) k []) → ReadAt k w
 
   -- a kind of n quantities, one by one
   few : (k n : ℕ) → Each (ReadAt k) 0 n → (w : ℕ) → w < n → ReadAt k w
@@ -115,7 +115,7 @@ module _ (m : Meter) (h : meterOk m ≡ true) where
   powers-read = few m 3 10 (refl, (refl, (refl, (refl, (refl, (refl, (refl, (refl, (refl, (refl, tt))))))))))
 
   signed-read : ReadKind m 4
-  unfolding signedValues signedMeanings powerAt
+  unfolding signedWordValues signedMeanings powerAt
   signed-read w b =
       let p = powerAt m w in
       ap (λ (v : ℕ). Reading (read.SignedPower (signedIn 2 v))) (signed-at m w)
@@ -184,7 +184,7 @@ module _ (dir : List Item) (tests : T (tested dir)) (m : Meter) (ok : meterOk m 
   item-read shows =
       let q = it .quantity in
       let v = shownOf m q in
-      let inside : 17 ≤ q / 64 → ⊥ = λ beyond. omega (arith, shows .case, ap length (List·getD-eq-default (valuesOf m) [] beyond)) in
+      let inside : 17 ≤ q / 64 → ⊥ = λ beyond. omega (arith, shows .case, ap length (List·getD-eq-default (kindsShown m) [] beyond)) in
       rw (
         wide-at dir tests i l .words,
         long-kind (meterT m) q v (q / 64) (omega arith),

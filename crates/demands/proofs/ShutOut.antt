@@ -15,9 +15,9 @@ use Rattle.ratio.specs.Ratios.{tOf}
 use Rattle.ratio.specs.Powers.{topPower, powerLimit}
 use Rattle.ratio.proofs.Powers.{power-laws}
 use Rattle.ratio.specs.Steps.{stepOf}
-use Rattle.counts.specs.Energies.{topWh, topCount, registerOf, wrapOf, energyOf}
+use Rattle.counts.specs.Counting.{topWh, topCount, registerOf, wrapOf, energyOf}
 use Rattle.setup.specs.Ranges.{wordOk, groupOk}
-use Rattle.directory.specs.Quantity.{energyCount, wrap, posEa}
+use Rattle.directory.specs.Quantity.{quantity, energyCount, wrap, posEa}
 use Rattle.directory.specs.Views.{View, passes}
 use Rattle.reading.specs.declared.Answer.{Answer}
 use Rattle.meter.specs.declared.Answer.the-variants.{Accepted}
@@ -29,7 +29,7 @@ use Rattle.meter.specs.Energies.{noEnergies, withPower, withinTop}
 use Rattle.meter.specs.Meters.{meterT, meterOk, blankOf, newOf}
 use Rattle.meter.specs.After.{nextOf, meterWithinTop, afterOf}
 use Rattle.meter.proofs.Parts.{in-force-most, sample-parts}
-use Rattle.meter.proofs.Answers.{made-within, new-blank, sample-answers}
+use Rattle.meter.proofs.Accepts.{made-within, new-blank, sample-answers}
 use Rattle.demands.specs.Histories.{Event, afterAll, exactOf}
 use Rattle.demands.specs.Demand3.{History, Poll, Bounds, RegisterRead}
 use Rattle.demands.specs.ShutOut.{Keeps, joinedWh, ours, bareRatios, tenWh, KeepsBare, ShutOut}
@@ -71,14 +71,14 @@ takes address r s made h =
     let blank = new-blank address r in
     let parts = sample-parts (tOf r) s h in
     let top : meterWithinTop (nextOf (blankOf address r) s) ≡ true = λ i. first-within (tOf r) (s .p) (parts .p) i && first-within (tOf r) (s .q) (parts .q) i in
-    sample-answers .accepted (newOf address r .meter) s .1
+    sample-answers (newOf address r .meter) s .accepted .1
     (made-within address r made, ap (λ (m : Meter). sampleOk (meterT m) s) blank ∙ h, ap (λ (m : Meter). meterWithinTop (nextOf m s)) blank ∙ top)
 
 module _ (v : View) (good : T (passes v)) where
   -- ---- our own
 
   -- the history of a new meter with nothing between
-  module _ (address : ℕ) (r : Ratios) (made : newOf address r .answer ≡ Accepted) (e : ℕ) (four : e < 4) (register : Poll v address (energyCount e)) (wrapped : Poll v address (wrap e)) where
+  module _ (address : ℕ) (r : Ratios) (made : newOf address r .answer ≡ Accepted) (e : ℕ) (four : e < 4) (register : Poll v address (quantity energyCount e)) (wrapped : Poll v address (quantity wrap e)) where
     abbrev told-by : List Event → History v
     told-by xs = record { address = address; ratios = r; made = made; events = xs; between = []; idle = not-empty v good .idle (afterAll v (newOf address r .meter) xs) [] [] }
 
@@ -89,7 +89,7 @@ module _ (v : View) (good : T (passes v)) where
     kept : Keeps v address r e (ours v address r e register wrapped)
     unfolding afterAll
     kept xs =
-        let x = demand-3 v good .register-first (told-by xs) e four register wrapped in
+        let x = demand-3 v good (told-by xs) e four .register-first register wrapped in
         rw (joined-so xs _ _ x) (record { above = x .bounds .above; below = omega (arith, x .bounds .below) })
 
   -- ---- others, whatever they are

@@ -10,7 +10,7 @@ use lib.ListN.{getD, replicate}
 use borrow.Author.Tests.{eqb-true}
 use Rattle.ratio.specs.declared.Ratios.{Ratios}
 use Rattle.directory.specs.Views.{View, passes}
-use Rattle.modbus.specs.Frame.{wordNumber, wordsAt, valuesOf}
+use Rattle.modbus.specs.Frame.{wordNumber, wordsAt, writeValues}
 use Rattle.modbus.proofs.Rows.{length-words}
 use Rattle.meter.specs.declared.samples.Sample.{Sample}
 use Rattle.meter.specs.declared.Meter.{Meter}
@@ -19,10 +19,10 @@ use Rattle.meter.specs.Groups.{noSetup}
 use Rattle.meter.specs.Meters.{meterT, meterOk, blankOf, newOf}
 use Rattle.meter.specs.After.{nextOf, meterWithinTop, afterOf}
 use Rattle.meter.proofs.Cases.{chosen}
-use Rattle.meter.proofs.Answers.{new-blank}
+use Rattle.meter.proofs.Accepts.{new-blank}
 use Rattle.store.specs.Writes.{toStandard, groupWords, replacedIn, storedOf}
 use Rattle.store.proofs.Verdicts.{write-when}
-use Rattle.registers.specs.Cases.{SampleTyped, WordsTyped, SetupTyped, Typed}
+use Rattle.registers.specs.Typed.{SampleTyped, WordsTyped, SetupTyped, Typed}
 use Rattle.demands.specs.Frames.{Heeds, Stores}
 use Rattle.demands.proofs.Frames.{untouched}
 use Rattle.demands.specs.Histories.{Event, afterEvent, afterAll, EventTyped, AllTyped, TypesKept}
@@ -74,14 +74,14 @@ module _ (frame : List ℕ) (bytes : (i : ℕ) → getD frame i 0 < 256) where
   words-fit (suc n) at zero = omega (arith, bytes at, bytes (at + 1))
   words-fit (suc n) at (suc i) = words-fit n (at + 2) i
 
-  values-typed : (n : ℕ) → wordNumber frame ≡ n → WordsTyped n (valuesOf frame)
+  values-typed : (n : ℕ) → wordNumber frame ≡ n → WordsTyped n (writeValues frame)
   values-typed n e = record { long = length-words (wordNumber frame) frame 7 ∙ e; word = words-fit (wordNumber frame) 7 }
 
   stored-typed : (m : Meter) → Typed m → Stores m frame → Typed (storedOf m frame)
   stored-typed m typed stores = record { latest = typed .latest; setup = by (toStandard frame) refl }
     where
       number : wordNumber frame ≡ groupWords frame
-      number = eqb-true _ _ (and-eq-true-iff (eqb (wordNumber frame) (groupWords frame)) _ .0 (write-when .legal m frame .0 (stores .1) .2) .0)
+      number = eqb-true _ _ (and-eq-true-iff (eqb (wordNumber frame) (groupWords frame)) _ .0 (write-when m frame .legal .0 (stores .1) .2) .0)
 
       by : (t : Bool) → toStandard frame ≡ t → SetupTyped (replacedIn (m .setup) frame)
       by true e = rw e (record { standard = values-typed 16 (number ∙ ap (λ (t : Bool). cond t 16 24) e); output = typed .setup .output })
@@ -96,7 +96,7 @@ module _ (v : View) (good : T (passes v)) where
 
   event : (m : Meter) (x : Event) → Typed m → EventTyped x → Typed (afterEvent v m x)
   event m (Event.sample s) typed fits = after-typed m s typed fits
-  event m (Event.frame bytes b) typed fits = kept-typed bytes fits m b _ typed (untouched v good .altered m bytes b)
+  event m (Event.frame bytes b) typed fits = kept-typed bytes fits m b _ typed (untouched v good m bytes b .altered)
 
   events : (m : Meter) (xs : List Event) → Typed m → AllTyped xs → Typed (afterAll v m xs)
   unfolding afterAll

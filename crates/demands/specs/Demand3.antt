@@ -11,15 +11,15 @@ use Rattle.counts.specs.declared.WattHours.{WattHours}
 use Rattle.counts.specs.declared.Joined.the-variants as joined
 use Rattle.ratio.specs.Ratios.{tOf}
 use Rattle.ratio.specs.Steps.{stepOf}
-use Rattle.counts.specs.Energies.{energyOf, joinOf, joinHalvesOf}
-use Rattle.directory.specs.Quantity.{energyCount, wrap, low, high}
+use Rattle.counts.specs.Counting.{energyOf, joinOf, joinHalvesOf}
+use Rattle.directory.specs.Quantity.{quantity, energyCount, wrap, low, high}
 use Rattle.directory.specs.Views.{View}
 use Rattle.modbus.specs.Frame.{addressOf}
 use Rattle.reading.specs.declared.Quantity.the-variants as read
 use Rattle.reading.specs.declared.Answer.{Answer}
 use Rattle.reading.specs.declared.Answer.the-variants.{Reading}
 use Rattle.collector.specs.Collector.{collectorIn}
-use Rattle.collector.specs.Answers.{Asks, itemAt}
+use Rattle.collector.specs.When.{Asks, itemAt}
 use Rattle.meter.specs.declared.Answer.the-variants.{Accepted}
 use Rattle.meter.specs.declared.Meter.{Meter}
 use Rattle.meter.specs.Meters.{newOf}
@@ -90,19 +90,23 @@ module _ (v : View) where
     pub joins : joinHalvesOf lows highs ≡ joined.Energy whole
     pub bounds : Bounds (exactAt e h) 1 (whole .0)
 
-  -- STATEMENT: demand 3, for each of the four energies: an item of its register, wherever it stands, with its wrap, and its Low with
-  -- its High, in either order; between the two reads nothing is added to the exact energy
-  pub record Demand3 : Type 0 where
+  -- STATEMENT: demand 3, of an energy: an item of its register, wherever it stands, with its wrap, and its Low with its High, in either
+  -- order; between the two reads nothing is added to the exact energy
+  pub record EnergyRead (h : History) (e : ℕ) : Type 0 where
     pub register-first :
-        (h : History) (e : ℕ) → e < 4 → (r : Poll (h .address) (energyCount e)) (w : Poll (h .address) (wrap e)) →
+        (r : Poll (h .address) (quantity energyCount e)) (w : Poll (h .address) (quantity wrap e)) →
         RegisterRead h e (collected (h .ratios) (sooner h) r) (collected (h .ratios) (later h) w)
     pub wrap-first :
-        (h : History) (e : ℕ) → e < 4 → (r : Poll (h .address) (energyCount e)) (w : Poll (h .address) (wrap e)) →
+        (r : Poll (h .address) (quantity energyCount e)) (w : Poll (h .address) (quantity wrap e)) →
         RegisterRead h e (collected (h .ratios) (later h) r) (collected (h .ratios) (sooner h) w)
     pub low-first :
-        (h : History) (e : ℕ) → e < 4 → (l : Poll (h .address) (low e)) (u : Poll (h .address) (high e)) →
+        (l : Poll (h .address) (quantity low e)) (u : Poll (h .address) (quantity high e)) →
         HalvesRead h e (collected (h .ratios) (sooner h) l) (collected (h .ratios) (later h) u)
     pub high-first :
-        (h : History) (e : ℕ) → e < 4 → (l : Poll (h .address) (low e)) (u : Poll (h .address) (high e)) →
+        (l : Poll (h .address) (quantity low e)) (u : Poll (h .address) (quantity high e)) →
         HalvesRead h e (collected (h .ratios) (later h) l) (collected (h .ratios) (sooner h) u)
-    pub still : (h : History) (e : ℕ) → exactOf v e (sooner h) (h .between) ≡ 0
+    pub still : exactOf v e (sooner h) (h .between) ≡ 0
+
+  -- demand 3: each of the four energies, in any history
+  abbrev pub Demand3 : Type 0
+  Demand3 = (h : History) (e : ℕ) → e < 4 → EnergyRead h e

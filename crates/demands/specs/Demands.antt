@@ -1,26 +1,36 @@
 -- The customer's three demands: what each is in one line, and the statements that it comes to. Every STATEMENT of the tree is a part.
+use mathlib.Core.Path.{_≡_}
+use mathlib.Core.Bool.{true}
+use mathlib.Core.List.{List}
+use Prim.Native.Nat.{ℕ}
 use lib.Dec.{T}
 use Rattle.refusal.specs.Numbers.{OneReasonEach}
 use Rattle.crc.specs.Crc.{CrcFits, IntactIsSealed, PutSeals}
 use Rattle.words.specs.Words.{ByteSent, ReadBack}
 use Rattle.words.specs.Signed.{SignedBack}
 use Rattle.lines.specs.Lines.{TextBack}
-use Rattle.counts.specs.Energies.{JoinSplit}
+use Rattle.ratio.specs.declared.Ratios.{Ratios}
+use Rattle.counts.specs.declared.Count.{Count}
+use Rattle.counts.specs.Counting.{JoinSplit}
 use Rattle.directory.specs.Rules.{DirectoryRules}
 use Rattle.directory.specs.Run.{RunSends}
 use Rattle.directory.specs.Views.{View, passes}
-use Rattle.own.specs.Rules.{OwnPasses, ThreeTables}
+use Rattle.own.specs.OwnRules.{OwnPasses, ThreeTables}
 use Rattle.own.specs.Kinds.{KindsInOrder}
 use Rattle.directory.specs.Bites.{TestsBite}
 use Rattle.modbus.specs.Read.{ReadWhen}
-use Rattle.reading.specs.Cases.{OneAnswerEach}
+use Rattle.reading.specs.Told.{OneAnswerEach}
 use Rattle.reading.specs.Impossible.{ThirteenWhen}
-use Rattle.collector.specs.Answers as collector
+use Rattle.collector.specs.When.{RepliesWhen, NotMisread, JoinsWhen}
+use Rattle.meter.specs.declared.samples.Sample.{Sample}
+use Rattle.meter.specs.declared.groups.Setup.{Setup}
+use Rattle.meter.specs.declared.Meter.{Meter}
 use Rattle.meter.specs.Energies.{ZeroToNeither}
-use Rattle.meter.specs.Answers.{NewAnswers, SampleAnswers, SetupIdle}
+use Rattle.meter.specs.Meters.{meterOk}
+use Rattle.meter.specs.Accepts.{NewAnswers, SampleAnswers, SetupIdle}
 use Rattle.store.specs.Writes.{WriteWhen}
-use Rattle.registers.specs.Cases.{EveryCase, SetupUnseen}
-use Rattle.demands.specs.Frames as board
+use Rattle.registers.specs.Typed.{Typed, EveryCase, SetupUnseen}
+use Rattle.demands.specs.Frames.{FramesWhen, Obeys, Untouched, RepliesSealed, BufferUnseen}
 use Rattle.demands.specs.RoundTrip.{WithData, RoundTrip}
 use Rattle.demands.specs.Histories.{TypesKept, AfterEvents}
 use Rattle.demands.specs.Polled.{EveryItemPolled}
@@ -34,14 +44,22 @@ use Rattle.demands.specs.Starred.{ExamplesHold}
 abbrev pub Every : (View → Type 0) → Type 0
 Every Of = (v : View) → T (passes v) → Of v
 
+-- of every frame and buffer handed to any meter
+abbrev pub EveryFrame : (View → Meter → List ℕ → List ℕ → Type 0) → Type 0
+EveryFrame Of = Every (λ v. (m : Meter) (frame buffer : List ℕ) → Of v m frame buffer)
+
+-- of every reply to any request, whatever the ratios told and the item asked
+abbrev pub EveryReply : (View → List ℕ → List ℕ → Ratios → ℕ → Type 0) → Type 0
+EveryReply Of = Every (λ v. (request reply : List ℕ) (r : Ratios) (index : ℕ) → Of v request reply r index)
+
 -- STATEMENT: demand 1: no frame, sample, record or reply stops the board or the collector, and what is damaged, foreign or refused
 -- leaves the meter and the reply buffer untouched, but for the error reply due. (That no call stops: none has a requires, and each
 -- is proved to return its definition's outcome.)
 pub record Demand1 : Type 0 where
-  pub samples : SampleAnswers
-  pub frames : Every board.Untouched
-  pub unseen : Every board.BufferUnseen
-  pub replies : Every collector.NotMisread
+  pub samples : (m : Meter) (s : Sample) → SampleAnswers m s
+  pub frames : EveryFrame Untouched
+  pub unseen : EveryFrame BufferUnseen
+  pub replies : EveryReply NotMisread
   pub records : Every AfterEvents
 
 -- STATEMENT: what both ends go by: the numbers of answers, CRC, words, directory, lines
@@ -65,22 +83,22 @@ pub record Ground : Type 0 where
 
 -- STATEMENT: demand 2, its first half: every reply is, byte for byte, the one that paper 01 gives
 pub record Replies : Type 0 where
-  pub new-meters : NewAnswers
-  pub frames : Every board.ExactlyWhen
-  pub obeys : Every board.Obeys
-  pub whole : Every board.RepliesSealed
-  pub reads : ReadWhen
-  pub writes : WriteWhen
-  pub shown : EveryCase
+  pub new-meters : (address : ℕ) (r : Ratios) → NewAnswers address r
+  pub frames : EveryFrame FramesWhen
+  pub obeys : EveryFrame Obeys
+  pub whole : EveryFrame RepliesSealed
+  pub reads : (v : View) (frame : List ℕ) → ReadWhen v frame
+  pub writes : (m : Meter) (frame : List ℕ) → WriteWhen m frame
+  pub shown : (m : Meter) → Typed m → meterOk m ≡ true → EveryCase m
   pub zero : ZeroToNeither
-  pub setup-idle : SetupIdle
-  pub setup-unseen : SetupUnseen
+  pub setup-idle : (m : Meter) (s : Sample) (setup : Setup) → SetupIdle m s setup
+  pub setup-unseen : (m : Meter) (setup : Setup) → SetupUnseen m setup
 
 -- STATEMENT: demand 2, its second half: the collector turns each reply into the one reading assigned, or the one refusal
 pub record Readings : Type 0 where
-  pub answers : Every collector.ExactlyWhen
+  pub answers : EveryReply RepliesWhen
   pub impossible : ThirteenWhen
-  pub joins : collector.JoinsWhen
+  pub joins : (r : Ratios) (c : Count) (wrap : ℕ) → JoinsWhen r c wrap
   pub split : JoinSplit
   pub with-data : Every WithData
   pub readings : Every RoundTrip

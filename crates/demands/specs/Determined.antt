@@ -10,16 +10,15 @@ use Rattle.crc.specs.Crc.{Put}
 use Rattle.lines.specs.declared.Line.{Line}
 use Rattle.lines.specs.Lines.{FrameRead, TextPut}
 use Rattle.counts.specs.declared.Joined.{Joined}
-use Rattle.counts.specs.Energies.{joinTold}
+use Rattle.counts.specs.Counting.{joinTold}
 use Rattle.meter.specs.declared.Answer.{Answer}
 use Rattle.meter.specs.declared.Meter.{Meter}
-use Rattle.meter.specs.Answers.{answerTold}
+use Rattle.meter.specs.Meters.{answerTold}
 use Rattle.store.specs.declared.Verdict.{Verdict}
 use Rattle.store.specs.Writes.{verdictTold}
 use Rattle.board.specs.declared.Reply.{Reply}
 use Rattle.board.specs.declared.Handled.{Handled}
-use Rattle.board.specs.Board.{Allowed, boardOf}
-use Rattle.demands.specs.Frames.{replyTold}
+use Rattle.board.specs.Board.{replyTold, Allowed, boardOf}
 
 -- STATEMENT: any two outcomes that a contract allows are equal: of `board::handle`, `crc::put`, `lines::frame` and `lines::text`
 pub record Determined : Type 0 where

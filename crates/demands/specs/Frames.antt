@@ -1,15 +1,14 @@
--- Paper 01, "What the meter does with a frame" and "How tight the contracts are": when each answer is given, what stays as it
--- was, and that no two outcomes are allowed.
+-- Paper 01, "What the meter does with a frame": when each answer is given, and what stays as it was.
 use mathlib.Core.Path.{_≡_}
 use mathlib.Core.Logic.{_↔_, _⊎_}
 use Prim.Native.Nat.{ℕ, _≤_, _<_}
 use mathlib.Core.Bool.{true, false}
-use mathlib.Core.List.{List, [], _∷_}
+use mathlib.Core.List.{List}
 use lib.ListN.{length, take, drop}
 use Rattle.refusal.specs.declared.Refusal.{Refusal}
 use Rattle.refusal.specs.declared.ErrorCode.{ErrorCode}
 use Rattle.refusal.specs.declared.ErrorCode.the-variants.{Address, Data}
-use Rattle.refusal.specs.Numbers.{refusalNumber, refusedBy}
+use Rattle.refusal.specs.Numbers.{refusedBy}
 use Rattle.crc.specs.Crc.{intact}
 use Rattle.directory.specs.declared.Span.the-variants.{Items, Error}
 use Rattle.directory.specs.Run.{runItems}
@@ -19,13 +18,12 @@ use Rattle.modbus.specs.Read.{readIn}
 use Rattle.modbus.specs.Replies.{errorBytes, echoReply}
 use Rattle.meter.specs.declared.Meter.{Meter}
 use Rattle.meter.specs.Meters.{meterOk}
-use Rattle.board.specs.declared.Reply.{Reply}
 use Rattle.board.specs.declared.Reply.the-variants.{Silent, Sent, Refused}
 use Rattle.board.specs.Reads.{itemsSent, dataReply}
 use Rattle.registers.specs.Shown.{shownOf}
 use Rattle.store.specs.declared.Verdict.the-variants.{Good, Wrong}
 use Rattle.store.specs.Writes.{storedOf, writtenOf}
-use Rattle.board.specs.Board.{silentOf, sentOf, boardIn}
+use Rattle.board.specs.Board.{Outcome, replyTold, silentOf, sentOf, boardIn}
 
 -- the meter heeds a frame: steps 1 and 2 are passed
 pub record Heeds (m : Meter) (frame buffer : List ℕ) : Type 0 where
@@ -50,86 +48,67 @@ Quiet m frame = (silence (m .given .address) frame ≡ true) ⊎ (addressOf fram
 abbrev pub Stores : Meter → List ℕ → Type 0
 Stores m frame = (isWrite frame ≡ true) × (writtenOf m frame .verdict ≡ Good)
 
--- a reply in numbers: 0 for silence; 1 and the bytes sent; the number of the refusal
-abbrev pub replyTold : Reply → List ℕ
-replyTold Silent = 0 ∷ []
-replyTold (Sent n) = 1 ∷ n ∷ []
-replyTold (Refused reason) = refusedBy (refusalNumber reason)
+-- a read that an error code is due to
+abbrev pub ReadErrs : View → ErrorCode → List ℕ → Type 0
+ReadErrs v code frame = (isRead frame ≡ true) × (readIn v frame ≡ Error code)
 
--- ---- over a view: the directory and the most words that reads go by
+-- ---- a frame and a reply buffer, handed to a meter; reads go by a view, the directory and the most words
 
-module _ (v : View) where
+module _ (v : View) (m : Meter) (frame b : List ℕ) where
+  -- what the meter does with it
+  abbrev done : Outcome
+  done = boardIn v m frame b
+
+  -- its answer in numbers
+  abbrev pub FrameGives : List ℕ → Type 0
+  FrameGives numbers = replyTold (done .handled .reply) ≡ numbers
+
   -- it answers with the error reply of a code, its record as it was
-  abbrev pub Errs : ℕ → Meter → List ℕ → List ℕ → Type 0
-  Errs code m frame buffer = boardIn v m frame buffer ≡ sentOf (errorBytes frame code) m buffer
+  abbrev pub SendsError : ℕ → Type 0
+  SendsError code = done ≡ sentOf (errorBytes frame code) m b
 
-  -- a read that an error code is due to
-  abbrev pub ReadErrs : ErrorCode → List ℕ → Type 0
-  ReadErrs code frame = (isRead frame ≡ true) × (readIn v frame ≡ Error code)
-
-  -- what a frame is answered with, in these numbers
-  abbrev pub Comes : Meter → List ℕ → List ℕ → List ℕ → Type 0
-  Comes m frame b numbers = replyTold (boardIn v m frame b .handled .reply) ≡ numbers
-
-  -- of one call: refusals 1 and 2, no other; silence; error codes 01, 02 and 03
-  pub record Rows (m : Meter) (frame b : List ℕ) : Type 0 where
-    pub row-1 : Comes m frame b (refusedBy 1) ↔ (meterOk m ≡ false)
-    pub row-2 : Comes m frame b (refusedBy 2) ↔ ((meterOk m ≡ true) × (length b < 256))
-    pub only : (n : ℕ) → Comes m frame b (refusedBy n) → (n ≡ 1) ⊎ (n ≡ 2)
-    pub silent : (boardIn v m frame b .handled .reply ≡ Silent) ↔ ((meterOk m ≡ true) × (256 ≤ length b) × Quiet m frame)
-    pub error-01 : Errs 1 m frame b ↔ (Answers m frame b × (isRead frame ≡ false) × (isWrite frame ≡ false))
-    pub error-02 : Errs 2 m frame b ↔ (Answers m frame b × (ReadErrs Address frame ⊎ WriteErrs Address m frame))
-    pub error-03 : Errs 3 m frame b ↔ (Answers m frame b × (ReadErrs Data frame ⊎ WriteErrs Data m frame))
-
-  -- STATEMENT: refusals 1 and 2, silence, and error codes 01, 02 and 03 are given exactly when their rule says
-  pub record ExactlyWhen : Type 0 where
-    pub rows : (m : Meter) (frame b : List ℕ) → Rows m frame b
+  -- STATEMENT: when refusals 1 and 2 are given, and no other; when the meter is silent; when it sends error codes 01, 02 and 03
+  pub record FramesWhen : Type 0 where
+    pub row-1 : FrameGives (refusedBy 1) ↔ (meterOk m ≡ false)
+    pub row-2 : FrameGives (refusedBy 2) ↔ ((meterOk m ≡ true) × (length b < 256))
+    pub only : (n : ℕ) → FrameGives (refusedBy n) → (n ≡ 1) ⊎ (n ≡ 2)
+    pub silent : (done .handled .reply ≡ Silent) ↔ ((meterOk m ≡ true) × (256 ≤ length b) × Quiet m frame)
+    pub error-01 : SendsError 1 ↔ (Answers m frame b × (isRead frame ≡ false) × (isWrite frame ≡ false))
+    pub error-02 : SendsError 2 ↔ (Answers m frame b × (ReadErrs v Address frame ⊎ WriteErrs Address m frame))
+    pub error-03 : SendsError 3 ↔ (Answers m frame b × (ReadErrs v Data frame ⊎ WriteErrs Data m frame))
 
   -- STATEMENT: a read that is not wrong is answered with its items' words, and a legal write is stored and echoed; address 0: stored,
   -- and silence
   pub record Obeys : Type 0 where
     pub reads :
-        (m : Meter) (frame b : List ℕ) (first count : ℕ) → Answers m frame b → isRead frame ≡ true →
-        readIn v frame ≡ Items first count →
-        boardIn v m frame b ≡ sentOf (dataReply frame (itemsSent (shownOf m) (runItems (v .seen) first count))) m b
-    pub writes :
-        (m : Meter) (frame b : List ℕ) → Answers m frame b → Stores m frame →
-        boardIn v m frame b ≡ sentOf (echoReply frame) (storedOf m frame) b
-    pub for-all :
-        (m : Meter) (frame b : List ℕ) → Heeds m frame b → addressOf frame ≡ 0 → Stores m frame →
-        boardIn v m frame b ≡ silentOf (storedOf m frame) b
+        (first count : ℕ) → Answers m frame b → isRead frame ≡ true → readIn v frame ≡ Items first count →
+        done ≡ sentOf (dataReply frame (itemsSent (shownOf m) (runItems (v .seen) first count))) m b
+    pub writes : Answers m frame b → Stores m frame → done ≡ sentOf (echoReply frame) (storedOf m frame) b
+    pub for-all : Heeds m frame b → addressOf frame ≡ 0 → Stores m frame → done ≡ silentOf (storedOf m frame) b
+
+  -- record and buffer are as they were
+  abbrev Same : Type 0
+  Same = (done .handled .meter ≡ m) × (done .buffer ≡ b)
 
   -- STATEMENT: a refusal changes nothing, nor does a frame that is damaged or foreign; silence leaves the buffer; bytes beyond a
   -- reply stay; only a legal write that the meter heeds alters the record, and stores its group alone; address 0 never has a reply
   pub record Untouched : Type 0 where
-    pub refused :
-        (m : Meter) (frame b : List ℕ) (reason : Refusal) → boardIn v m frame b .handled .reply ≡ Refused reason →
-        (boardIn v m frame b .handled .meter ≡ m) × (boardIn v m frame b .buffer ≡ b)
-    pub unheard :
-        (m : Meter) (frame b : List ℕ) → silence (m .given .address) frame ≡ true →
-        (boardIn v m frame b .handled .meter ≡ m) × (boardIn v m frame b .buffer ≡ b)
-    pub silent : (m : Meter) (frame b : List ℕ) → boardIn v m frame b .handled .reply ≡ Silent → boardIn v m frame b .buffer ≡ b
-    pub beyond :
-        (m : Meter) (frame b : List ℕ) (n : ℕ) → boardIn v m frame b .handled .reply ≡ Sent n →
-        drop n (boardIn v m frame b .buffer) ≡ drop n b
+    pub refused : (reason : Refusal) → done .handled .reply ≡ Refused reason → Same
+    pub unheard : silence (m .given .address) frame ≡ true → Same
+    pub silent : done .handled .reply ≡ Silent → done .buffer ≡ b
+    pub beyond : (n : ℕ) → done .handled .reply ≡ Sent n → drop n (done .buffer) ≡ drop n b
     pub altered :
-        (m : Meter) (frame b : List ℕ) →
-        (boardIn v m frame b .handled .meter ≡ m) ⊎
-        (Heeds m frame b × Stores m frame × (boardIn v m frame b .handled .meter ≡ storedOf m frame))
-    pub for-all : (m : Meter) (frame b : List ℕ) (n : ℕ) → addressOf frame ≡ 0 → boardIn v m frame b .handled .reply ≡ Sent n → ⊥
+        (done .handled .meter ≡ m) ⊎ (Heeds m frame b × Stores m frame × (done .handled .meter ≡ storedOf m frame))
+    pub for-all : (n : ℕ) → addressOf frame ≡ 0 → done .handled .reply ≡ Sent n → ⊥
 
   -- STATEMENT: every reply's CRC is right, and its length at most 256
   pub record RepliesSealed : Type 0 where
-    pub long : (m : Meter) (frame b : List ℕ) (n : ℕ) → boardIn v m frame b .handled .reply ≡ Sent n → n ≤ 256
-    pub whole :
-        (m : Meter) (frame b : List ℕ) (n : ℕ) → boardIn v m frame b .handled .reply ≡ Sent n →
-        intact (take n (boardIn v m frame b .buffer)) ≡ true
+    pub long : (n : ℕ) → done .handled .reply ≡ Sent n → n ≤ 256
+    pub whole : (n : ℕ) → done .handled .reply ≡ Sent n → intact (take n (done .buffer)) ≡ true
 
   -- STATEMENT: what stood in the buffer is never seen: with room, answer, record and reply bytes are the same for any other
   pub record BufferUnseen : Type 0 where
-    pub same :
-        (m : Meter) (frame a b : List ℕ) → 256 ≤ length a → 256 ≤ length b →
-        boardIn v m frame a .handled ≡ boardIn v m frame b .handled
+    pub same : (a : List ℕ) → 256 ≤ length a → 256 ≤ length b → boardIn v m frame a .handled ≡ done .handled
     pub bytes :
-        (m : Meter) (frame a b : List ℕ) (n : ℕ) → 256 ≤ length a → 256 ≤ length b → boardIn v m frame a .handled .reply ≡ Sent n →
-        take n (boardIn v m frame a .buffer) ≡ take n (boardIn v m frame b .buffer)
+        (a : List ℕ) (n : ℕ) → 256 ≤ length a → 256 ≤ length b → boardIn v m frame a .handled .reply ≡ Sent n →
+        take n (boardIn v m frame a .buffer) ≡ take n (done .buffer)

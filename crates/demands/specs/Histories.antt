@@ -12,7 +12,7 @@ use Rattle.meter.specs.Energies.{valueOf}
 use Rattle.meter.specs.Meters.{meterOk, newOf, energyAt}
 use Rattle.meter.specs.After.{afterOf}
 use Rattle.meter.specs.Carried.{isAccepted, addedBy}
-use Rattle.registers.specs.Cases.{SampleTyped, Typed}
+use Rattle.registers.specs.Typed.{SampleTyped, Typed}
 use Rattle.board.specs.Board.{boardIn}
 
 -- an event: a sample is handed over, or a frame, with a buffer for the reply

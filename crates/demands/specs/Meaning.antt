@@ -9,7 +9,7 @@ use Rattle.signed.specs.declared.Signed.{Signed}
 use Rattle.signed.specs.Signs.{signWord}
 use Rattle.ratio.specs.Powers.{powerUnit, powerRegister}
 use Rattle.ratio.specs.Steps.{stepOf}
-use Rattle.counts.specs.Energies.{registerOf, wrapOf, lowOf, highOf, energyOf}
+use Rattle.counts.specs.Counting.{registerOf, wrapOf, lowOf, highOf, energyOf}
 use Rattle.meter.specs.declared.energies.Energy.{Energy}
 use Rattle.meter.specs.declared.Meter.{Meter}
 use Rattle.meter.specs.Samples.{factorOf}
@@ -69,21 +69,12 @@ signMeanings m = map (λ (p : Signed). read.Sign (signWord (p .negative))) (powe
 abbrev pub meanings : Meter → List (List Quantity)
 meanings m =
     [] ∷
-    map (λ (v : ℕ). read.Voltage v) (m .latest .voltages) ∷
-    map (λ (v : ℕ). read.Current v) (m .latest .currents) ∷
-    powerMeanings m ∷
-    signedMeanings m ∷
-    countMeanings m ∷
-    lowMeanings m ∷
-    highMeanings m ∷
-    wrapMeanings m ∷
-    factorMeanings (factorOf (m .latest .factor)) ∷
-    signMeanings m ∷
-    (read.Sector (m .latest .sector) ∷ []) ∷
-    (read.Frequency (m .latest .frequency) ∷ []) ∷
-    (read.Kta (m .given .ratios .kta) ∷ []) ∷
-    (read.Ktv (m .given .ratios .ktv) ∷ []) ∷
-    (read.Sequence (m .latest .sequence) ∷ []) ∷
+    map (λ (v : ℕ). read.Voltage v) (m .latest .voltages) ∷ map (λ (v : ℕ). read.Current v) (m .latest .currents) ∷
+    powerMeanings m ∷ signedMeanings m ∷
+    countMeanings m ∷ lowMeanings m ∷ highMeanings m ∷ wrapMeanings m ∷
+    factorMeanings (factorOf (m .latest .factor)) ∷ signMeanings m ∷
+    (read.Sector (m .latest .sector) ∷ []) ∷ (read.Frequency (m .latest .frequency) ∷ []) ∷
+    (read.Kta (m .given .ratios .kta) ∷ []) ∷ (read.Ktv (m .given .ratios .ktv) ∷ []) ∷ (read.Sequence (m .latest .sequence) ∷ []) ∷
     map (λ (v : ℕ). read.Plain v) (plainValues m) ∷
     []
 

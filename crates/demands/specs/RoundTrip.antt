@@ -14,13 +14,13 @@ use Rattle.modbus.specs.Frame.{addressOf, isRead}
 use Rattle.modbus.specs.Replies.{errorBytes}
 use Rattle.meter.specs.declared.Meter.{Meter}
 use Rattle.meter.specs.Meters.{meterOk}
-use Rattle.registers.specs.Cases.{Typed}
+use Rattle.registers.specs.Typed.{Typed}
 use Rattle.board.specs.declared.Reply.{Reply}
 use Rattle.board.specs.declared.Reply.the-variants as board
 use Rattle.board.specs.Board.{boardIn}
 use Rattle.reading.specs.declared.Answer.the-variants.{Reading}
 use Rattle.collector.specs.Collector.{collectorIn}
-use Rattle.collector.specs.Answers.{Asks, Asked, itemAt, Comes}
+use Rattle.collector.specs.When.{Asks, Asked, itemAt, ReplyGives}
 use Rattle.demands.specs.Meaning.{meaningOf}
 
 -- the bytes of a reply, at the start of the buffer; none where there is no reply
@@ -56,10 +56,10 @@ module _ (v : View) where
         collectorIn v request (replyTo m request b) (m .given .ratios) index ≡ Reading (meaningOf m (itemAt v a index .quantity))
     pub past :
         (m : Meter) (request b : List ℕ) (index : ℕ) → Meets m request b → (a : Asks v request) → a .count ≤ index →
-        Comes v request (replyTo m request b) (m .given .ratios) index (refusedBy 12)
+        ReplyGives v request (replyTo m request b) (m .given .ratios) index (refusedBy 12)
     pub error :
         (request : List ℕ) (r : Ratios) (index code : ℕ) → Asked v request r → 1 ≤ code → code ≤ 3 →
-        Comes v request (errorBytes request code) r index (errorBy code)
+        ReplyGives v request (errorBytes request code) r index (errorBy code)
     pub other :
         (m : Meter) (request b reply : List ℕ) (r : Ratios) (index : ℕ) → Meets m request b → ratiosOk r ≡ true →
-        isRead (replyTo m request b) ≡ false → Comes v request reply r index (refusedBy 7)
+        isRead (replyTo m request b) ≡ false → ReplyGives v request reply r index (refusedBy 7)

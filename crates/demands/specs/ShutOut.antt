@@ -9,11 +9,11 @@ use lib.ListN.{getD}
 use Rattle.ratio.specs.declared.Ratios.{Ratios}
 use Rattle.ratio.specs.Ratios.{tOf}
 use Rattle.ratio.specs.Steps.{stepOf}
-use Rattle.counts.specs.Energies.{topCount, registerOf, wrapOf, energyOf, joinOf, joinTold}
-use Rattle.directory.specs.Quantity.{energyCount, wrap, posEa}
+use Rattle.counts.specs.Counting.{topCount, registerOf, wrapOf, energyOf, joinOf, joinTold}
+use Rattle.directory.specs.Quantity.{quantity, energyCount, wrap, posEa}
 use Rattle.directory.specs.Views.{View}
 use Rattle.reading.specs.declared.Answer.{Answer}
-use Rattle.reading.specs.Cases.{told}
+use Rattle.reading.specs.Told.{told}
 use Rattle.meter.specs.declared.Answer.the-variants.{Accepted}
 use Rattle.meter.specs.declared.samples.Sample.{Sample}
 use Rattle.meter.specs.Samples.{sampleOk, noSample}
@@ -57,7 +57,7 @@ module _ (v : View) where
   Keeps address r e figure = (xs : List Event) → Bounds (exactOf v e (newOf address r .meter) xs) (stepOf (tOf r)) (figure xs)
 
   -- our own board and collector: after the events, register and wrap are polled, read and joined
-  abbrev pub ours : (address : ℕ) → Ratios → (e : ℕ) → Poll v address (energyCount e) → Poll v address (wrap e) → List Event → ℕ
+  abbrev pub ours : (address : ℕ) → Ratios → (e : ℕ) → Poll v address (quantity energyCount e) → Poll v address (quantity wrap e) → List Event → ℕ
   ours address r e register wrapped xs =
       joinedWh r
       (collected v r (afterAll v (newOf address r .meter) xs) register)
@@ -74,7 +74,7 @@ module _ (v : View) where
   pub record ShutOut : Type 0 where
     pub kept :
         (address : ℕ) (r : Ratios) → newOf address r .answer ≡ Accepted →
-        (e : ℕ) → e < 4 → (register : Poll v address (energyCount e)) (wrapped : Poll v address (wrap e)) →
+        (e : ℕ) → e < 4 → (register : Poll v address (quantity energyCount e)) (wrapped : Poll v address (quantity wrap e)) →
         Keeps address r e (ours address r e register wrapped)
     pub same-each-time : (figure : List Event → ℕ) → ((xs : List Event) → figure xs ≡ figure []) → KeepsBare figure → ⊥
     pub ignores-samples :

@@ -12,9 +12,9 @@ use Rattle.counts.specs.declared.WattHours.{WattHours}
 use Rattle.ratio.specs.Ratios.{tOf}
 use Rattle.ratio.specs.Powers.{powerUnit}
 use Rattle.ratio.specs.Steps.{stepOf}
-use Rattle.counts.specs.Energies.{registerOf, wrapOf, lowOf, highOf}
-use Rattle.registers.specs.SignedWords.{signedPower, factorHundredths, factorThousandths}
-use Rattle.reading.specs.Cases.{told}
+use Rattle.counts.specs.Counting.{registerOf, wrapOf, lowOf, highOf}
+use Rattle.registers.specs.SignedWords.{signedWord, factorHundredths, factorThousandths}
+use Rattle.reading.specs.Told.{told}
 use Rattle.collector.specs.Collector.{collectorOf}
 
 -- an example: what the definitions give, and what the paper says
@@ -40,7 +40,7 @@ wattHours wh = record { 0 = wh }
 
 -- a sign word and a signed word of a power
 abbrev signs : Signed → List ℕ
-signs p = signWord (p .negative) ∷ signedPower (p .negative) (p .magnitude) ∷ []
+signs p = signWord (p .negative) ∷ signedWord (p .negative) (p .magnitude) ∷ []
 
 -- the two words of a factor
 abbrev factors : Signed → List ℕ

@@ -9,53 +9,57 @@ abbrev pub quantity : ℕ → ℕ → ℕ
 quantity kind which = 64 * kind + which
 
 -- the kinds, from 1 on in the order of the paper's list
-abbrev pub voltage : ℕ → ℕ
-voltage which = quantity 1 which
+abbrev pub voltage : ℕ
+voltage = 1
 
-abbrev pub current : ℕ → ℕ
-current which = quantity 2 which
+abbrev pub current : ℕ
+current = 2
 
-abbrev pub power : ℕ → ℕ
-power which = quantity 3 which
+abbrev pub power : ℕ
+power = 3
 
-abbrev pub signedPower : ℕ → ℕ
-signedPower which = quantity 4 which
+abbrev pub signedPower : ℕ
+signedPower = 4
 
-abbrev pub energyCount : ℕ → ℕ
-energyCount which = quantity 5 which
+abbrev pub energyCount : ℕ
+energyCount = 5
 
-abbrev pub low : ℕ → ℕ
-low which = quantity 6 which
+abbrev pub low : ℕ
+low = 6
 
-abbrev pub high : ℕ → ℕ
-high which = quantity 7 which
+abbrev pub high : ℕ
+high = 7
 
-abbrev pub wrap : ℕ → ℕ
-wrap which = quantity 8 which
+abbrev pub wrap : ℕ
+wrap = 8
 
-abbrev pub factor : ℕ → ℕ
-factor which = quantity 9 which
+abbrev pub factor : ℕ
+factor = 9
 
-abbrev pub sign : ℕ → ℕ
-sign which = quantity 10 which
+abbrev pub sign : ℕ
+sign = 10
 
 abbrev pub sector : ℕ
-sector = quantity 11 0
+sector = 11
 
 abbrev pub frequency : ℕ
-frequency = quantity 12 0
+frequency = 12
 
 abbrev pub kta : ℕ
-kta = quantity 13 0
+kta = 13
 
 abbrev pub ktv : ℕ
-ktv = quantity 14 0
+ktv = 14
 
 abbrev pub sequence : ℕ
-sequence = quantity 15 0
+sequence = 15
 
-abbrev pub plain : ℕ → ℕ
-plain which = quantity 16 which
+abbrev pub plain : ℕ
+plain = 16
+
+-- a kind of one quantity
+abbrev pub only : ℕ
+only = 0
 
 -- voltages of the phases, and chained; currents of the phases, and of the neutral
 abbrev pub L1 : ℕ
@@ -141,36 +145,25 @@ byteIdentifier = 1
 abbrev pub wordIdentifier : ℕ
 wordIdentifier = 2
 
+-- the k-th setup word from 0x2000 on, and from 0x2200 on
 abbrev pub setup2000 : ℕ → ℕ
-setup2000 k = plain (3 + k)
+setup2000 k = 3 + k
 
 abbrev pub setup2200 : ℕ → ℕ
-setup2200 k = plain (19 + k)
+setup2200 k = 19 + k
 
 -- the bytes that each quantity takes, kind by kind and in the order above
 abbrev pub widths : List (List ℕ)
 widths =
     [] ∷
     -- voltage, current, power, signed power
-    replicate 6 4 ∷
-    replicate 4 4 ∷
-    replicate 10 4 ∷
-    replicate 8 4 ∷
+    replicate 6 4 ∷ replicate 4 4 ∷ replicate 10 4 ∷ replicate 8 4 ∷
     -- energy count, Low, High, wrap
-    replicate 4 4 ∷
-    replicate 4 4 ∷
-    replicate 4 4 ∷
-    replicate 4 2 ∷
+    replicate 4 4 ∷ replicate 4 4 ∷ replicate 4 4 ∷ replicate 4 2 ∷
     -- factor, sign, sector, frequency
-    (2 ∷ 4 ∷ []) ∷
-    replicate 8 1 ∷
-    (1 ∷ []) ∷
-    (2 ∷ []) ∷
+    (2 ∷ 4 ∷ []) ∷ replicate 8 1 ∷ (1 ∷ []) ∷ (2 ∷ []) ∷
     -- KTA, KTV, sequence, plain
-    (2 ∷ []) ∷
-    (2 ∷ []) ∷
-    (1 ∷ []) ∷
-    (1 ∷ 1 ∷ 2 ∷ replicate (16 + 24) 2) ∷
+    (2 ∷ []) ∷ (2 ∷ []) ∷ (1 ∷ []) ∷ (1 ∷ 1 ∷ 2 ∷ replicate (16 + 24) 2) ∷
     []
 
 -- the bytes that a quantity takes; none where the number is no quantity

@@ -1,6 +1,6 @@
 -- Each answer of the definitions, by the tests that lead to it.
 use mathlib.Core.Path.{_≡_, refl}
-use mathlib.Core.Bool.{Bool, true, false, cond}
+use mathlib.Core.Bool.{Bool, true, false, not, cond}
 use Prim.Native.Nat.{ℕ}
 use lib.Dec.{eqb}
 use Rattle.refusal.specs.declared.Refusal.the-variants.{MeterOutOfLimits, RatioOutOfLimits, OwnAddressZero, SampleOutOfLimits, EnergyPastTop}
@@ -8,42 +8,46 @@ use Rattle.ratio.specs.declared.Ratios.{Ratios}
 use Rattle.ratio.specs.Ratios.{ratiosOk}
 use Rattle.meter.specs.declared.samples.Sample.{Sample}
 use Rattle.meter.specs.declared.Meter.{Meter}
+use Rattle.meter.specs.declared.Answer.the-variants.{Accepted, Refused}
 use Rattle.meter.specs.declared.Answered.{Answered}
 use Rattle.meter.specs.Samples.{sampleOk}
-use Rattle.meter.specs.Meters.{meterT, meterOk, blankOf, refusedOf, acceptedOf, newOf}
+use Rattle.meter.specs.Meters.{meterT, meterOk, blankOf, answerWith, newOf}
 use Rattle.meter.specs.After.{nextOf, meterWithinTop, afterOf}
 
 module _ (address : ℕ) (ratios : Ratios) where
-  pub new-3 : ratiosOk ratios ≡ false → newOf address ratios ≡ refusedOf RatioOutOfLimits (blankOf address ratios)
+  pub new-3 : ratiosOk ratios ≡ false → newOf address ratios ≡ answerWith (Refused RatioOutOfLimits) (blankOf address ratios)
   unfolding newOf
   new-3 r = rw r refl
 
-  pub new-4 : ratiosOk ratios ≡ true → eqb address 0 ≡ true → newOf address ratios ≡ refusedOf OwnAddressZero (blankOf address ratios)
+  pub new-4 : ratiosOk ratios ≡ true → eqb address 0 ≡ true → newOf address ratios ≡ answerWith (Refused OwnAddressZero) (blankOf address ratios)
   unfolding newOf
   new-4 r a = rw (r, a) refl
 
-  pub new-made : ratiosOk ratios ≡ true → eqb address 0 ≡ false → newOf address ratios ≡ acceptedOf (blankOf address ratios)
+  pub new-made : ratiosOk ratios ≡ true → eqb address 0 ≡ false → newOf address ratios ≡ answerWith Accepted (blankOf address ratios)
   unfolding newOf
   new-made r a = rw (r, a) refl
 
 -- what follows from the three tests of a sample, in their order: m is the meter, n the next
 abbrev pub chosen : Bool → Bool → Bool → Meter → Meter → Answered
 chosen a b c m n =
-    cond a (cond b (cond c (acceptedOf n) (refusedOf EnergyPastTop m)) (refusedOf SampleOutOfLimits m)) (refusedOf MeterOutOfLimits m)
+    cond (not a) (answerWith (Refused MeterOutOfLimits) m)
+    (cond (not b) (answerWith (Refused SampleOutOfLimits) m)
+    (cond (not c) (answerWith (Refused EnergyPastTop) m)
+    (answerWith Accepted n)))
 
 module _ (m : Meter) (s : Sample) where
-  pub after-1 : meterOk m ≡ false → afterOf m s ≡ refusedOf MeterOutOfLimits m
+  pub after-1 : meterOk m ≡ false → afterOf m s ≡ answerWith (Refused MeterOutOfLimits) m
   unfolding afterOf
   after-1 h = rw h refl
 
-  pub after-5 : meterOk m ≡ true → sampleOk (meterT m) s ≡ false → afterOf m s ≡ refusedOf SampleOutOfLimits m
+  pub after-5 : meterOk m ≡ true → sampleOk (meterT m) s ≡ false → afterOf m s ≡ answerWith (Refused SampleOutOfLimits) m
   unfolding afterOf
   after-5 h k = rw (h, k) refl
 
-  pub after-6 : meterOk m ≡ true → sampleOk (meterT m) s ≡ true → meterWithinTop (nextOf m s) ≡ false → afterOf m s ≡ refusedOf EnergyPastTop m
+  pub after-6 : meterOk m ≡ true → sampleOk (meterT m) s ≡ true → meterWithinTop (nextOf m s) ≡ false → afterOf m s ≡ answerWith (Refused EnergyPastTop) m
   unfolding afterOf
   after-6 h k t = rw (h, k, t) refl
 
-  pub after-accepted : meterOk m ≡ true → sampleOk (meterT m) s ≡ true → meterWithinTop (nextOf m s) ≡ true → afterOf m s ≡ acceptedOf (nextOf m s)
+  pub after-accepted : meterOk m ≡ true → sampleOk (meterT m) s ≡ true → meterWithinTop (nextOf m s) ≡ true → afterOf m s ≡ answerWith Accepted (nextOf m s)
   unfolding afterOf
   after-accepted h k t = rw (h, k, t) refl

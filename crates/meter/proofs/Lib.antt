@@ -1,5 +1,5 @@
 pub mod Parts
 pub mod Cases
 pub mod Outcomes
-pub mod Answers
+pub mod Accepts
 pub mod Sums

@@ -12,7 +12,7 @@ use Rattle.refusal.proofs.Distinct.{one-reason-each, caseIn, numberIn}
 use Rattle.meter.specs.declared.Answer.{Answer}
 use Rattle.meter.specs.declared.Answer.the-variants.{Accepted, Refused}
 use Rattle.meter.specs.Carried.{isAccepted}
-use Rattle.meter.specs.Answers.{answerTold}
+use Rattle.meter.specs.Meters.{answerTold}
 
 -- ---- by numbers
 

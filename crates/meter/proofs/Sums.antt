@@ -13,7 +13,7 @@ use Rattle.meter.specs.Meters.{meterT, meterOk, blankOf, newOf, energyAt
 use Rattle.meter.specs.After.{nextOf, meterWithinTop, afterOf}
 use Rattle.meter.specs.Carried.{carriesFor, isAccepted, addedBy}
 use Rattle.meter.proofs.Cases.{chosen}
-use Rattle.meter.proofs.Answers.{new-blank}
+use Rattle.meter.proofs.Accepts.{new-blank}
 
 -- the carry loses nothing
 plus-value : (e : Energy) (x : ℕ) → valueOf (plusOf e x) ≡ valueOf e + x

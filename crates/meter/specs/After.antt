@@ -1,12 +1,13 @@
 -- Paper 01, "The meter's record": a sample covers one second.
-use mathlib.Core.Bool.{Bool, cond}
+use mathlib.Core.Bool.{Bool, not, cond}
 use Rattle.refusal.specs.declared.Refusal.the-variants.{MeterOutOfLimits, SampleOutOfLimits, EnergyPastTop}
 use Rattle.meter.specs.declared.samples.Sample.{Sample}
 use Rattle.meter.specs.declared.Meter.{Meter}
+use Rattle.meter.specs.declared.Answer.the-variants.{Accepted, Refused}
 use Rattle.meter.specs.declared.Answered.{Answered}
 use Rattle.meter.specs.Samples.{inForce, sampleOk}
 use Rattle.meter.specs.Energies.{withPowers, countersWithinTop}
-use Rattle.meter.specs.Meters.{meterT, meterOk, withCounters, withLatest, refusedOf, acceptedOf}
+use Rattle.meter.specs.Meters.{meterT, meterOk, withCounters, withLatest, answerWith}
 
 -- when accepted, it becomes the latest; 3-phase P is added to +Ea or -Ea; likewise Q
 abbrev pub nextOf : Meter → Sample → Meter
@@ -16,13 +17,13 @@ nextOf m s = withLatest (withCounters m (withPowers (m .counters) (inForce (s .p
 abbrev pub meterWithinTop : Meter → Bool
 meterWithinTop m = countersWithinTop (m .counters)
 
--- a sample: 1, then 5, then 6, the meter unchanged; else the next meter
+-- a sample, the first that applies: a refusal leaves the meter as it was, else the next meter
 unfoldable pub afterOf : Meter → Sample → Answered
 afterOf m s =
-    cond (meterOk m)
-    (cond (sampleOk (meterT m) s)
-    (cond (meterWithinTop (nextOf m s))
-    (acceptedOf (nextOf m s))
-    (refusedOf EnergyPastTop m))
-    (refusedOf SampleOutOfLimits m))
-    (refusedOf MeterOutOfLimits m)
+    -- 1. meter record out of limits
+    cond (not (meterOk m)) (answerWith (Refused MeterOutOfLimits) m)
+    -- 5. sample out of limits
+    (cond (not (sampleOk (meterT m) s)) (answerWith (Refused SampleOutOfLimits) m)
+    -- 6. sample would carry an energy past its top
+    (cond (not (meterWithinTop (nextOf m s))) (answerWith (Refused EnergyPastTop) m)
+    (answerWith Accepted (nextOf m s))))

@@ -5,7 +5,7 @@ use mathlib.Core.Bool.{Bool, true, _&&_}
 use lib.Dec.{leb}
 use Rattle.signed.specs.declared.Signed.{Signed}
 use Rattle.signed.specs.Signs.{aboveOf, belowOf}
-use Rattle.counts.specs.Energies.{topWh}
+use Rattle.counts.specs.Counting.{topWh}
 use Rattle.meter.specs.declared.energies.Energy.{Energy}
 use Rattle.meter.specs.declared.energies.Energies.{Energies}
 use Rattle.meter.specs.declared.energies.Counters.{Counters}

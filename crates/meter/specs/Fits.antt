@@ -3,7 +3,7 @@ use Prim.Native.Nat.{_≤_}
 use lib.IntN.{natAbs}
 use Rattle.signed.specs.declared.Signed.{Signed}
 use Rattle.ratio.specs.Powers.{topPower}
-use Rattle.counts.specs.Energies.{topWh}
+use Rattle.counts.specs.Counting.{topWh}
 use Rattle.meter.specs.declared.samples.Powers.{Powers}
 use Rattle.meter.specs.declared.energies.Energies.{Energies}
 

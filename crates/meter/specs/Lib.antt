@@ -4,5 +4,5 @@ pub mod Groups
 pub mod Meters
 pub mod After
 pub mod Carried
-pub mod Answers
+pub mod Accepts
 pub mod Fits

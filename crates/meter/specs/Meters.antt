@@ -1,11 +1,11 @@
 -- Paper 01, "The meter's record": the limits of a record, and a new meter.
 use Prim.Native.Nat.{ℕ}
 use mathlib.Core.List.{List, [], _∷_}
-use mathlib.Core.Bool.{Bool, _&&_, cond}
+use mathlib.Core.Bool.{Bool, _&&_, not, cond}
 use lib.Dec.{leb, eqb}
 use lib.ListN.{getD}
-use Rattle.refusal.specs.declared.Refusal.{Refusal}
 use Rattle.refusal.specs.declared.Refusal.the-variants.{RatioOutOfLimits, OwnAddressZero}
+use Rattle.refusal.specs.Numbers.{refusalNumber, refusedBy}
 use Rattle.ratio.specs.declared.Ratios.{Ratios}
 use Rattle.ratio.specs.Ratios.{ratiosOk, tOf}
 use Rattle.meter.specs.declared.energies.Energy.{Energy}
@@ -14,6 +14,7 @@ use Rattle.meter.specs.declared.samples.Sample.{Sample}
 use Rattle.meter.specs.declared.given.Given.{Given}
 use Rattle.meter.specs.declared.groups.Setup.{Setup}
 use Rattle.meter.specs.declared.Meter.{Meter}
+use Rattle.meter.specs.declared.Answer.{Answer}
 use Rattle.meter.specs.declared.Answer.the-variants.{Accepted, Refused}
 use Rattle.meter.specs.declared.Answered.{Answered}
 use Rattle.meter.specs.Energies.{noEnergy, countersOk, noCounters}
@@ -43,10 +44,8 @@ blankOf address ratios = record { given = givenOf address ratios; counters = noC
 -- the four energies, in the paper's order: +Ea, -Ea, +Er, -Er
 abbrev pub energiesOf : Meter → List Energy
 energiesOf m =
-    m .counters .active .positive ∷
-    m .counters .active .negative ∷
-    m .counters .reactive .positive ∷
-    m .counters .reactive .negative ∷
+    m .counters .active .positive ∷ m .counters .active .negative ∷
+    m .counters .reactive .positive ∷ m .counters .reactive .negative ∷
     []
 
 -- the one of a number
@@ -65,19 +64,20 @@ withLatest m sample = record { given = m .given; counters = m .counters; latest 
 abbrev pub withSetup : Meter → Setup → Meter
 withSetup m setup = record { given = m .given; counters = m .counters; latest = m .latest; setup = setup }
 
--- a refusal returns its number; every record is as before
-abbrev pub refusedOf : Refusal → Meter → Answered
-refusedOf reason m = record { answer = Refused reason; meter = m }
+-- an answer in numbers: 0 for accepted; the number of the refusal
+abbrev pub answerTold : Answer → List ℕ
+answerTold Accepted = 0 ∷ []
+answerTold (Refused reason) = refusedBy (refusalNumber reason)
 
--- else the next record stands beside the answer
-abbrev pub acceptedOf : Meter → Answered
-acceptedOf m = record { answer = Accepted; meter = m }
+-- an answer, and the record beside it
+abbrev pub answerWith : Answer → Meter → Answered
+answerWith answer m = record { answer = answer; meter = m }
 
--- a new meter: 3, then 4; one that is refused is handed back as it would be, out of limits
+-- a new meter, the first that applies; one that is refused is handed back out of limits, so that every later call refuses it
 unfoldable pub newOf : ℕ → Ratios → Answered
 newOf address ratios =
-    cond (ratiosOk ratios)
-    (cond (eqb address 0)
-    (refusedOf OwnAddressZero (blankOf address ratios))
-    (acceptedOf (blankOf address ratios)))
-    (refusedOf RatioOutOfLimits (blankOf address ratios))
+    -- 3. KTA or KTV out of limits
+    cond (not (ratiosOk ratios)) (answerWith (Refused RatioOutOfLimits) (blankOf address ratios))
+    -- 4. own address 0
+    (cond (eqb address 0) (answerWith (Refused OwnAddressZero) (blankOf address ratios))
+    (answerWith Accepted (blankOf address ratios)))

@@ -2,7 +2,7 @@
 ghost use mathlib.Core.Path.{_≡_};
 ghost use Prim.Native.Nat.{_≤_};
 ghost use Rattle.ratio.specs.Powers.{topPower};
-ghost use Rattle.counts.specs.Energies.{topWh};
+ghost use Rattle.counts.specs.Counting.{topWh};
 ghost use Rattle.meter.specs.Fits.{Room};
 ghost use Rattle.meter.specs.Energies.{energyOk, plusOf, energiesOk, withinTop, withPower, noCounters, countersOk, countersWithinTop, withPowers};
 use crate::Meter;

@@ -6,8 +6,9 @@ pub mod samples;
 
 ghost use mathlib.Core.Path.{_≡_};
 ghost use mathlib.Core.Bool.{true};
+ghost use Rattle.meter.specs.declared.Answer.the-variants.{Refused};
 ghost use Rattle.meter.specs.Samples.{sampleOk};
-ghost use Rattle.meter.specs.Meters.{meterT, meterOk, blankOf, refusedOf, newOf};
+ghost use Rattle.meter.specs.Meters.{meterT, meterOk, blankOf, answerWith, newOf};
 ghost use Rattle.meter.specs.After.{nextOf, afterOf};
 use energies::Counters;
 use given::Given;
@@ -79,7 +80,7 @@ impl Meter {
     }
 
     fn refused(self, reason: Refusal) -> Answered
-        ensures { λ r. ⌜ r ≡ refusedOf reason self ⌝ }
+        ensures { λ r. ⌜ r ≡ answerWith (Refused reason) self ⌝ }
     {
         Answered {
             answer: Answer::Refused(reason),

@@ -62,13 +62,13 @@ module _ (v : View) (frame : List ℕ) where
       back true false e f (inr (inr h)) = h
       back false y e f h = refl
 
-pub read-when : ReadWhen
-read-when =
+pub read-when : (v : View) (frame : List ℕ) → ReadWhen v frame
+read-when v frame =
     record {
-      error-02 = λ v frame. ran v frame (Error Address) data-address;
-      error-03 = wrong-data;
-      items = λ v frame first count. ran v frame (Items first count) (no-run Data refl);
-      never = λ v frame h. run-sound (v .seen) (startOf frame) (wordNumber frame) (ran v frame (Error Function) data-sound .0 h .2);
+      error-02 = ran v frame (Error Address) data-address;
+      error-03 = wrong-data v frame;
+      items = λ first count. ran v frame (Items first count) (no-run Data refl);
+      never = λ h. run-sound (v .seen) (startOf frame) (wordNumber frame) (ran v frame (Error Function) data-sound .0 h .2);
     }
 
 -- a read that is answered with data: its length, the most words it asks for; its items stand among those seen and send just those
@@ -80,7 +80,7 @@ pub record LegalRead (v : View) (frame : List ℕ) (first count : ℕ) : Type 0 
 
 pub legal-read : (v : View) → T (passes v) → {frame : List ℕ} {first count : ℕ} → readIn v frame ≡ Items first count → LegalRead v frame first count
 legal-read v good {frame} {first} {count} e =
-    let t = read-when .items v frame first count .0 e in
+    let t = read-when v frame .items first count .0 e in
     let n = neither (ltb (wordNumber frame) 1) (ltb (v .most) (wordNumber frame)) (t .1) in
     record {
       long = t .0;

@@ -42,8 +42,8 @@ wordsAt zero l at = []
 wordsAt (suc n) l at = wordAt l at ∷ wordsAt n l (at + 2)
 
 -- of a write: the values, behind the byte number
-abbrev pub valuesOf : List ℕ → List ℕ
-valuesOf frame = wordsAt (wordNumber frame) frame 7
+abbrev pub writeValues : List ℕ → List ℕ
+writeValues frame = wordsAt (wordNumber frame) frame 7
 
 -- 2. Silence: fewer than 4 or more than 256 bytes; wrong CRC; address neither 0 nor own; function 0x80 or above
 unfoldable pub silence : ℕ → List ℕ → Bool

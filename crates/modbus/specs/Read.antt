@@ -26,18 +26,20 @@ readIn v frame =
     -- start, and the run item by item: error 02, or 03 for half an L; else data
     (runIn (v .seen) (startOf frame) (wordNumber frame))
 
--- STATEMENT: of a read, error 02 and error 03 are due exactly when, and it is answered with data exactly when neither is; error 01 never is
-pub record ReadWhen : Type 0 where
-  pub error-02 :
-      (v : View) (frame : List ℕ) → (readIn v frame ≡ Error Address) ↔
-      ((length frame ≡ 8) × (numberWrong (v .most) (wordNumber frame) ≡ false) ×
-      (runIn (v .seen) (startOf frame) (wordNumber frame) ≡ Error Address))
-  pub error-03 :
-      (v : View) (frame : List ℕ) → (readIn v frame ≡ Error Data) ↔
-      ((length frame ≡ 8 → ⊥) ⊎ (numberWrong (v .most) (wordNumber frame) ≡ true) ⊎
-      (runIn (v .seen) (startOf frame) (wordNumber frame) ≡ Error Data))
-  pub items :
-      (v : View) (frame : List ℕ) (first count : ℕ) → (readIn v frame ≡ Items first count) ↔
-      ((length frame ≡ 8) × (numberWrong (v .most) (wordNumber frame) ≡ false) ×
-      (runIn (v .seen) (startOf frame) (wordNumber frame) ≡ Items first count))
-  pub never : (v : View) (frame : List ℕ) → readIn v frame ≡ Error Function → ⊥
+module _ (v : View) (frame : List ℕ) where
+  -- the word number is outside 1 to the most
+  abbrev wrong : Bool
+  wrong = numberWrong (v .most) (wordNumber frame)
+
+  -- the run for the words asked
+  abbrev run : Span
+  run = runIn (v .seen) (startOf frame) (wordNumber frame)
+
+  -- STATEMENT: when a read is answered with error 02, when with error 03, and when with data; error 01 is never due to one
+  pub record ReadWhen : Type 0 where
+    pub error-02 : (readIn v frame ≡ Error Address) ↔ ((length frame ≡ 8) × (wrong ≡ false) × (run ≡ Error Address))
+    pub error-03 : (readIn v frame ≡ Error Data) ↔ ((length frame ≡ 8 → ⊥) ⊎ (wrong ≡ true) ⊎ (run ≡ Error Data))
+    pub items :
+        (first count : ℕ) →
+        (readIn v frame ≡ Items first count) ↔ ((length frame ≡ 8) × (wrong ≡ false) × (run ≡ Items first count))
+    pub never : readIn v frame ≡ Error Function → ⊥

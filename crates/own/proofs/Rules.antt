@@ -13,7 +13,7 @@ use Rattle.directory.proofs.Flat.{items-length, flat, items-flat}
 use Rattle.directory.proofs.Views.{passes-ruled}
 use Rattle.own.specs.Table.{directory}
 use Rattle.own.specs.Own.{own, ownReach}
-use Rattle.own.specs.Rules.{OwnPasses, placesOf, ThreeTables}
+use Rattle.own.specs.OwnRules.{OwnPasses, placesOf, ThreeTables}
 use Rattle.own.specs.Kinds.{firstOfKind, KindsInOrder}
 
 -- THE TESTS of paper 01's own

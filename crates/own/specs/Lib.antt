@@ -1,4 +1,4 @@
 pub mod Table
 pub mod Own
-pub mod Rules
+pub mod OwnRules
 pub mod Kinds

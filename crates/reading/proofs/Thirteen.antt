@@ -12,9 +12,10 @@ use Rattle.refusal.specs.Numbers.{refusedBy}
 use Rattle.refusal.proofs.Distinct.{caseIn, numberIn}
 use Rattle.words.specs.Signed.{magnitudeIn}
 use Rattle.ratio.specs.Ratios.{ktaOk, ktvOk}
-use Rattle.counts.specs.Energies.{topCount, topLow, topHigh}
+use Rattle.counts.specs.Counting.{topCount, topLow, topHigh}
 use Rattle.directory.specs.declared.Item.{Item}
 use Rattle.directory.specs.Item.{none, isB}
+use Rattle.directory.specs.Quantity.{energyCount, low, high, factor, sign, sector, kta, ktv, sequence}
 use Rattle.directory.specs.Order.{tested}
 use Rattle.directory.specs.Run.{isL}
 use Rattle.directory.proofs.ByKind.{_also_}
@@ -22,7 +23,7 @@ use Rattle.reading.specs.declared.Quantity.{Quantity}
 use Rattle.reading.specs.declared.Quantity.the-variants.{Voltage, Current, Power, SignedPower, Low, High, Wrap, Factor, Sign, Sector, Frequency, Kta, Ktv, Sequence, Plain}
 use Rattle.reading.specs.declared.Answer.{Answer}
 use Rattle.reading.specs.declared.Answer.the-variants.{Reading}
-use Rattle.reading.specs.Cases.{kindOf, told}
+use Rattle.reading.specs.Told.{kindOf, told}
 use Rattle.reading.specs.Readings.{impossible, when, times, signedIn, unitOf, counted, longs, shorts, longOf, wordOf, readingOf}
 use Rattle.reading.specs.Impossible.{oneOf, thirteen, ThirteenWhen}
 use Rattle.reading.proofs.Told.{one-answer-each}
@@ -62,15 +63,15 @@ abbrev row : ℕ → Bool → Bool → ℕ → Bool
 row k b l v =
     oneOf
     ((b && leb 256 v) ∷
-    (eqb k 10 && ltb 1 v) ∷
-    (eqb k 11 && ltb 2 v) ∷
-    (eqb k 15 && not (eqb v 1 || eqb v 2)) ∷
-    (eqb k 5 && ltb topCount v) ∷
-    (eqb k 6 && ltb topLow v) ∷
-    (eqb k 7 && ltb topHigh v) ∷
-    (eqb k 9 && cond l (ltb 1000 (magnitudeIn 2 v)) (ltb 100 (magnitudeIn 1 v))) ∷
-    (eqb k 13 && not (ktaOk v)) ∷
-    (eqb k 14 && not (ktvOk v)) ∷
+    (eqb k sign && ltb 1 v) ∷
+    (eqb k sector && ltb 2 v) ∷
+    (eqb k sequence && not (eqb v 1 || eqb v 2)) ∷
+    (eqb k energyCount && ltb topCount v) ∷
+    (eqb k low && ltb topLow v) ∷
+    (eqb k high && ltb topHigh v) ∷
+    (eqb k factor && cond l (ltb 1000 (magnitudeIn 2 v)) (ltb 100 (magnitudeIn 1 v))) ∷
+    (eqb k kta && not (ktaOk v)) ∷
+    (eqb k ktv && not (ktvOk v)) ∷
     [])
 
 -- an L, by kind; there is no L of a wrap

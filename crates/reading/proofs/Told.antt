@@ -12,7 +12,7 @@ use Rattle.reading.specs.declared.Quantity.{Quantity}
 use Rattle.reading.specs.declared.Quantity.the-variants.{Voltage, Current, Power, SignedPower, Energy, Low, High, Wrap, Factor, Sign, Sector, Frequency, Kta, Ktv, Sequence, Plain}
 use Rattle.reading.specs.declared.Answer.{Answer}
 use Rattle.reading.specs.declared.Answer.the-variants.{Reading, Error, Refused}
-use Rattle.reading.specs.Cases.{kindOf, valuesOf, told, OneAnswerEach}
+use Rattle.reading.specs.Told.{quantityTold, told, OneAnswerEach}
 
 -- a sign word and a magnitude, as a signed value
 abbrev signedFrom : List ℕ → Signed
@@ -22,7 +22,7 @@ sign-back : (b : Bool) → eqb (cond b 1 0) 1 ≡ b
 sign-back true = refl
 sign-back false = refl
 
-signed-back : (s : Signed) → signedFrom (valuesOf (Factor s)) ≡ s
+signed-back : (s : Signed) → signedFrom (drop 1 (quantityTold (Factor s))) ≡ s
 signed-back s = ap (λ (b : Bool). record { negative = b; magnitude = s .magnitude }) (sign-back (s .negative))
 
 -- a reading from its number and values
@@ -31,7 +31,7 @@ readFrom kind vs =
     let v = getD vs 0 0 in
     getD (Plain 0 ∷ Voltage v ∷ Current v ∷ Power v ∷ SignedPower (signedFrom vs) ∷ Energy (record { 0 = v }) (getD vs 1 0) (record { 0 = getD vs 2 0 }) ∷ Low v ∷ High v ∷ Wrap v ∷ Factor (signedFrom vs) ∷ Sign v ∷ Sector v ∷ Frequency v ∷ Kta v ∷ Ktv v ∷ Sequence v ∷ Plain v ∷ []) kind (Plain 0)
 
-read-back : (q : Quantity) → readFrom (kindOf q) (valuesOf q) ≡ q
+read-back : (q : Quantity) → readFrom (getD (quantityTold q) 0 0) (drop 1 (quantityTold q)) ≡ q
 read-back (Voltage v) = refl
 read-back (Current v) = refl
 read-back (Power v) = refl

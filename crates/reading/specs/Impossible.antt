@@ -9,14 +9,15 @@ use lib.ListN.{length, getD}
 use Rattle.refusal.specs.Numbers.{refusedBy}
 use Rattle.words.specs.Signed.{magnitudeIn}
 use Rattle.ratio.specs.Ratios.{ktaOk, ktvOk}
-use Rattle.counts.specs.Energies.{topCount, topLow, topHigh}
+use Rattle.counts.specs.Counting.{topCount, topLow, topHigh}
 use Rattle.directory.specs.declared.Item.{Item}
 use Rattle.directory.specs.Item.{none, isB}
+use Rattle.directory.specs.Quantity.{energyCount, low, high, factor, sign, sector, kta, ktv, sequence}
 use Rattle.directory.specs.Order.{tested}
 use Rattle.directory.specs.Run.{isL}
 use Rattle.reading.specs.declared.Quantity.{Quantity}
 use Rattle.reading.specs.declared.Answer.the-variants.{Reading}
-use Rattle.reading.specs.Cases.{kindOf, told}
+use Rattle.reading.specs.Told.{kindOf, told}
 use Rattle.reading.specs.Readings.{readingOf}
 
 -- the kind of an item's quantity
@@ -33,18 +34,18 @@ unfoldable pub thirteen : Item → ℕ → Bool
 thirteen it v = oneOf (
     -- B with upper byte set; sign over 1; sector over 2; sequence not 1 or 2
     (isB it && leb 256 v) ∷
-    (isKind 10 it && ltb 1 v) ∷
-    (isKind 11 it && ltb 2 v) ∷
-    (isKind 15 it && not (eqb v 1 || eqb v 2)) ∷
+    (isKind sign it && ltb 1 v) ∷
+    (isKind sector it && ltb 2 v) ∷
+    (isKind sequence it && not (eqb v 1 || eqb v 2)) ∷
     -- energy register over 99,999,999; Low over 999,999; High over 65,535,999
-    (isKind 5 it && ltb topCount v) ∷
-    (isKind 6 it && ltb topLow v) ∷
-    (isKind 7 it && ltb topHigh v) ∷
+    (isKind energyCount it && ltb topCount v) ∷
+    (isKind low it && ltb topLow v) ∷
+    (isKind high it && ltb topHigh v) ∷
     -- factor beyond 100 hundredths (one word) or 1,000 thousandths (two) in magnitude
-    (isKind 9 it && cond (isL it) (ltb 1000 (magnitudeIn 2 v)) (ltb 100 (magnitudeIn 1 v))) ∷
+    (isKind factor it && cond (isL it) (ltb 1000 (magnitudeIn 2 v)) (ltb 100 (magnitudeIn 1 v))) ∷
     -- KTA or KTV item out of limits
-    (isKind 13 it && not (ktaOk v)) ∷
-    (isKind 14 it && not (ktvOk v)) ∷
+    (isKind kta it && not (ktaOk v)) ∷
+    (isKind ktv it && not (ktvOk v)) ∷
     [])
 
 -- STATEMENT: an item of a directory that passes the tests is refused with 13 exactly when its value is in the row; no item is with another

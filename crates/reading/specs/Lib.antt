@@ -1,3 +1,3 @@
-pub mod Cases
+pub mod Told
 pub mod Readings
 pub mod Impossible

@@ -11,7 +11,7 @@ use Rattle.words.specs.Signed.{negativeIn, magnitudeIn}
 use Rattle.ratio.specs.Ratios.{ktaOk, ktvOk}
 use Rattle.ratio.specs.Powers.{powerUnit}
 use Rattle.ratio.specs.Steps.{stepOf}
-use Rattle.counts.specs.Energies.{topCount, topLow, topHigh, energyOf}
+use Rattle.counts.specs.Counting.{topCount, topLow, topHigh, energyOf}
 use Rattle.directory.specs.declared.Item.{Item}
 use Rattle.directory.specs.Item.{isB}
 use Rattle.directory.specs.Quantity.{wholeS}

@@ -13,7 +13,7 @@ use Rattle.signed.specs.declared.Signed.{Signed}
 use Rattle.signed.specs.Signs.{signWord}
 use Rattle.words.proofs.Signs.{twos-plain}
 use Rattle.ratio.specs.Powers.{powerLimit, powerRegister}
-use Rattle.counts.specs.Energies.{topWh, registerOf, wrapOf, lowOf, highOf}
+use Rattle.counts.specs.Counting.{topWh, registerOf, wrapOf, lowOf, highOf}
 use Rattle.directory.proofs.ByKind.{kind-is, none-at}
 use Rattle.meter.specs.declared.energies.Energy.{Energy}
 use Rattle.meter.specs.declared.energies.Counters.{Counters}
@@ -21,8 +21,8 @@ use Rattle.meter.specs.declared.Meter.{Meter}
 use Rattle.meter.specs.Energies.{energyOk, countersOk}
 use Rattle.meter.specs.Meters.{meterT, meterOk, energiesOf, energyAt}
 use Rattle.meter.proofs.Parts.{meter-parts, counter-parts, sample-parts, phases-most, powers-phases, in-force-most, energy-top}
-use Rattle.registers.specs.SignedWords.{signedPower}
-use Rattle.registers.specs.Shown.{powersOf, powerAt, powerValues, signedValues, signValues, countValues, lowValues, highValues, wrapValues, plainValues, valuesOf, shownOf}
+use Rattle.registers.specs.SignedWords.{signedWord}
+use Rattle.registers.specs.Shown.{powersOf, powerAt, powerValues, signedWordValues, signValues, countValues, lowValues, highValues, wrapValues, plainValues, kindsShown, shownOf}
 
 each : {A : Type 0} (f : A → ℕ) (l : List A) (i : ℕ) (d : A) → f d ≡ 0 → getD (map f l) i 0 ≡ f (getD l i d)
 each f l i d z = ap (λ (n : ℕ). getD (map f l) i n) (sym z) ∙ List·getD-map f l i d
@@ -66,9 +66,9 @@ energy-most m which h = energy-top (energyAt which m) (energy-within m which h)
 -- ---- powers
 
 module _ (m : Meter) (which : ℕ) where
-  pub signed-at : getD (signedValues m) which 0 ≡ signedPower (powerAt m which .negative) (powerAt m which .magnitude)
-  unfolding signedValues powerAt
-  signed-at = each (λ (p : Signed). signedPower (p .negative) (p .magnitude)) (powersOf m) which _ (twos-plain 2 0)
+  pub signed-at : getD (signedWordValues m) which 0 ≡ signedWord (powerAt m which .negative) (powerAt m which .magnitude)
+  unfolding signedWordValues powerAt
+  signed-at = each (λ (p : Signed). signedWord (p .negative) (p .magnitude)) (powersOf m) which _ (twos-plain 2 0)
 
   pub sign-at : getD (signValues m) which 0 ≡ signWord (powerAt m which .negative)
   unfolding signValues powerAt
@@ -146,10 +146,10 @@ plain-at m (suc (suc (suc k))) h = ap (λ (i : ℕ). getD (m .setup .standard ++
 -- ---- kinds
 
 module _ (m : Meter) (q : ℕ) where
-  pub shown-kind : (k : ℕ) → q - q % 64 ≡ 64 * k → shownOf m q ≡ getD (getD (valuesOf m) k []) (q % 64) 0
+  pub shown-kind : (k : ℕ) → q - q % 64 ≡ 64 * k → shownOf m q ≡ getD (getD (kindsShown m) k []) (q % 64) 0
   unfolding shownOf
-  shown-kind k h = ap (λ (i : ℕ). getD (getD (valuesOf m) i []) (q % 64) 0) (kind-is q k h)
+  shown-kind k h = ap (λ (i : ℕ). getD (getD (kindsShown m) i []) (q % 64) 0) (kind-is q k h)
 
   pub shown-none : (1 ≤ q / 64 → 17 ≤ q / 64) → shownOf m q ≡ 0
   unfolding shownOf
-  shown-none beyond = ap (λ (l : List ℕ). getD l (q % 64) 0) (none-at [] 1 (drop 1 (valuesOf m)) (q / 64) beyond)
+  shown-none beyond = ap (λ (l : List ℕ). getD l (q % 64) 0) (none-at [] 1 (drop 1 (kindsShown m)) (q / 64) beyond)

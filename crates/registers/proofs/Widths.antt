@@ -23,8 +23,8 @@ use Rattle.meter.specs.declared.Meter.{Meter}
 use Rattle.meter.specs.Samples.{factorOf}
 use Rattle.meter.specs.Meters.{meterT, meterOk, withSetup, energyAt}
 use Rattle.meter.proofs.Parts.{two-at-most, SampleParts, sample-parts, meter-parts, ratio-parts}
-use Rattle.registers.specs.Shown.{powerAt, powerValues, signedValues, signValues, countValues, lowValues, highValues, wrapValues, factorValues, plainValues, valuesOf, shownOf}
-use Rattle.registers.specs.Cases.{Typed, EveryCase, SetupUnseen}
+use Rattle.registers.specs.Shown.{powerAt, powerValues, signedWordValues, signValues, countValues, lowValues, highValues, wrapValues, factorValues, plainValues, kindsShown, shownOf}
+use Rattle.registers.specs.Typed.{Typed, EveryCase, SetupUnseen}
 use Rattle.registers.proofs.Values.{count-at, low-at, high-at, wrap-at, energy-most, signed-at, sign-at, power-s, power-whole, power-at, power-most}
 
 -- values that fit their widths, one by one
@@ -77,7 +77,7 @@ append-fits w (v ∷ a) b f g (suc i) = append-fits w a b (λ i. f (suc i)) g i
 
 -- a value shown of a quantity stands among its kind's, and fits its bytes
 pub record Shows (m : Meter) (q : ℕ) : Type 0 where
-  pub case : q % 64 < length (getD (valuesOf m) (q / 64) [])
+  pub case : q % 64 < length (getD (kindsShown m) (q / 64) [])
   pub fits : shownOf m q < 256 ^ widthOf q
 
 -- energies: of any record within limits
@@ -95,32 +95,32 @@ module _ (m : Meter) (h : meterOk m ≡ true) where
   wrap-fits i = rw (wrap-at m i) (omega (arith, counts-fit .wrap (meterT m) (energyAt i m .wh) (energy-most m i h)))
 
   -- one of the four, of a kind whose values fit
-  one-shows : (k w e : ℕ) → e < 4 → Fit (getD (valuesOf m) k []) (replicate 4 w) → getD widths k [] ≡ replicate 4 w → 1 ≤ w → Shows m (quantity k e)
+  one-shows : (k w e : ℕ) → e < 4 → Fit (getD (kindsShown m) k []) (replicate 4 w) → getD widths k [] ≡ replicate 4 w → 1 ≤ w → Shows m (quantity k e)
   unfolding shownOf
   one-shows k w e l fit same some =
       let kind : quantity k e / 64 ≡ k = omega (arith, l) in
       let which : quantity k e % 64 ≡ e = omega (arith, l) in
       let wide : getD (replicate 4 w) e 0 ≡ w = getD-replicate 4 e w 0 l in
       record {
-        case = rw (kind, which) (fit-case (getD (valuesOf m) k []) (replicate 4 w) fit e (rw wide some));
-        fits = rw (kind, which, same) (fit-at (getD (valuesOf m) k []) (replicate 4 w) fit e);
+        case = rw (kind, which) (fit-case (getD (kindsShown m) k []) (replicate 4 w) fit e (rw wide some));
+        fits = rw (kind, which, same) (fit-at (getD (kindsShown m) k []) (replicate 4 w) fit e);
       }
 
   -- an energy's register, Low, High and wrap
   module _ (e : ℕ) (four : e < 4) where
-    pub count-shows : Shows m (energyCount e)
+    pub count-shows : Shows m (quantity energyCount e)
     unfolding countValues
     count-shows = one-shows 5 4 e four (all-fit 4 4 (countValues m) refl count-fits) refl (omega arith)
 
-    pub low-shows : Shows m (low e)
+    pub low-shows : Shows m (quantity low e)
     unfolding lowValues
     low-shows = one-shows 6 4 e four (all-fit 4 4 (lowValues m) refl low-fits) refl (omega arith)
 
-    pub high-shows : Shows m (high e)
+    pub high-shows : Shows m (quantity high e)
     unfolding highValues
     high-shows = one-shows 7 4 e four (all-fit 4 4 (highValues m) refl high-fits) refl (omega arith)
 
-    pub wrap-shows : Shows m (wrap e)
+    pub wrap-shows : Shows m (quantity wrap e)
     unfolding wrapValues
     wrap-shows = one-shows 8 2 e four (all-fit 2 4 (wrapValues m) refl wrap-fits) refl (omega arith)
 
@@ -142,7 +142,7 @@ module _ (m : Meter) (typed : Typed m) (h : meterOk m ≡ true) where
           rw (power-at m i (eqb-false i 8 e) (eqb-false i 9 f))
           (powers-fit .register (meterT m) (powerAt m i .magnitude) (power-most m i h))
 
-  signed-fits : (i : ℕ) → getD (signedValues m) i 0 < 256 ^ 4
+  signed-fits : (i : ℕ) → getD (signedWordValues m) i 0 < 256 ^ 4
   signed-fits i =
       rw (signed-at m i)
       (twos-fits 2 (powerAt m i .negative) (powerAt m i .magnitude / 100)
@@ -171,14 +171,14 @@ module _ (m : Meter) (typed : Typed m) (h : meterOk m ≡ true) where
       let t = ratio-parts m h in
       (leb-true _ _ (and-eq-true-iff (leb 1 (r .kta)) (leb (r .kta) 9999) .0 (t .0) .1), leb-true _ _ (and-eq-true-iff (leb 10 (r .ktv)) (leb (r .ktv) 9999) .0 (t .1) .1))
 
-  values-fit : Fits (valuesOf m) widths
-  unfolding powerValues signedValues signValues countValues lowValues highValues wrapValues
+  values-fit : Fits (kindsShown m) widths
+  unfolding powerValues signedWordValues signValues countValues lowValues highValues wrapValues
   values-fit =
       tt also
       all-fit 4 6 (m .latest .voltages) (typed .latest .voltages) (typed .latest .voltage) also
       all-fit 4 4 (m .latest .currents) (typed .latest .currents) (typed .latest .current) also
       all-fit 4 10 (powerValues m) refl power-fits also
-      all-fit 4 8 (signedValues m) refl signed-fits also
+      all-fit 4 8 (signedWordValues m) refl signed-fits also
       all-fit 4 4 (countValues m) refl (count-fits m h) also
       all-fit 4 4 (lowValues m) refl (low-fits m h) also
       all-fit 4 4 (highValues m) refl (high-fits m h) also
@@ -193,12 +193,12 @@ module _ (m : Meter) (typed : Typed m) (h : meterOk m ≡ true) where
       plain-fits also
       tt
 
-  case : (q : ℕ) → 1 ≤ widthOf q → q % 64 < length (getD (valuesOf m) (q / 64) [])
-  case q w = fit-case (getD (valuesOf m) (q / 64) []) (getD widths (q / 64) []) (fits-at (valuesOf m) widths values-fit (q / 64)) (q % 64) w
+  case : (q : ℕ) → 1 ≤ widthOf q → q % 64 < length (getD (kindsShown m) (q / 64) [])
+  case q w = fit-case (getD (kindsShown m) (q / 64) []) (getD widths (q / 64) []) (fits-at (kindsShown m) widths values-fit (q / 64)) (q % 64) w
 
   fits : (q : ℕ) → shownOf m q < 256 ^ widthOf q
   unfolding shownOf
-  fits q = fit-at (getD (valuesOf m) (q / 64) []) (getD widths (q / 64) []) (fits-at (valuesOf m) widths values-fit (q / 64)) (q % 64)
+  fits q = fit-at (getD (kindsShown m) (q / 64) []) (getD widths (q / 64) []) (fits-at (kindsShown m) widths values-fit (q / 64)) (q % 64)
 
 -- ---- and so for the items of a directory that passes the tests
 
@@ -219,21 +219,20 @@ module _ (dir : List Item) (tests : T (tested dir)) (i : ℕ) (inside : i < leng
   pub typed-shows : (m : Meter) → Typed m → meterOk m ≡ true → Shows m (it .quantity)
   typed-shows m typed h = record { case = case m typed h (it .quantity) (known .0); fits = fits m typed h (it .quantity) }
 
-pub every-case : EveryCase
-every-case = record {
-  case = case;
-  fits = fits;
-  known = λ dir tests i h. known dir tests i h .0;
-  room = λ dir tests m typed h i l. in-room dir tests i l (fits m typed h (getD dir i none .quantity));
+pub every-case : (m : Meter) → Typed m → meterOk m ≡ true → EveryCase m
+every-case m typed h = record {
+  case = case m typed h;
+  fits = fits m typed h;
+  room = λ dir tests i l. in-room dir tests i l (fits m typed h (getD dir i none .quantity));
 }
 
-unseen : (m : Meter) (setup : Setup) (k : ℕ) → k < 16 → getD (valuesOf (withSetup m setup)) k [] ≡ getD (valuesOf m) k []
-unfolding powerValues signedValues signValues countValues lowValues highValues wrapValues
+unseen : (m : Meter) (setup : Setup) (k : ℕ) → k < 16 → getD (kindsShown (withSetup m setup)) k [] ≡ getD (kindsShown m) k []
+unfolding powerValues signedWordValues signValues countValues lowValues highValues wrapValues
 unseen m setup k h =
     let n = withSetup m setup in
-    List·getD-append (take 16 (valuesOf n)) (plainValues n ∷ []) [] k h
-    ∙ sym (List·getD-append (take 16 (valuesOf m)) (plainValues m ∷ []) [] k h)
+    List·getD-append (take 16 (kindsShown n)) (plainValues n ∷ []) [] k h
+    ∙ sym (List·getD-append (take 16 (kindsShown m)) (plainValues m ∷ []) [] k h)
 
-pub setup-unseen : SetupUnseen
+pub setup-unseen : (m : Meter) (setup : Setup) → SetupUnseen m setup
 unfolding shownOf
-setup-unseen = record { kinds = λ m setup q h. ap (λ (l : List ℕ). getD l (q % 64) 0) (unseen m setup (q / 64) h) }
+setup-unseen m setup = record { kinds = λ q h. ap (λ (l : List ℕ). getD l (q % 64) 0) (unseen m setup (q / 64) h) }

@@ -1,3 +1,3 @@
 pub mod SignedWords
 pub mod Shown
-pub mod Cases
+pub mod Typed

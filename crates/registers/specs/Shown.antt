@@ -7,24 +7,19 @@ use lib.ListN.{getD}
 use Rattle.signed.specs.declared.Signed.{Signed}
 use Rattle.signed.specs.Signs.{signedOf, signWord}
 use Rattle.ratio.specs.Powers.{powerRegister}
-use Rattle.counts.specs.Energies.{registerOf, wrapOf, lowOf, highOf}
+use Rattle.counts.specs.Counting.{registerOf, wrapOf, lowOf, highOf}
 use Rattle.meter.specs.declared.energies.Energy.{Energy}
 use Rattle.meter.specs.declared.Meter.{Meter}
 use Rattle.meter.specs.Samples.{inForce, factorOf}
 use Rattle.meter.specs.Meters.{meterT, energiesOf}
-use Rattle.registers.specs.SignedWords.{signedPower, factorHundredths, factorThousandths}
+use Rattle.registers.specs.SignedWords.{signedWord, factorHundredths, factorThousandths}
 
 -- the signed powers of the latest sample: 3-phase P and Q, then P and Q phase by phase
 abbrev pub powersOf : Meter → List Signed
 powersOf m =
-    inForce (m .latest .p) ∷
-    inForce (m .latest .q) ∷
-    signedOf (m .latest .p .l1) ∷
-    signedOf (m .latest .p .l2) ∷
-    signedOf (m .latest .p .l3) ∷
-    signedOf (m .latest .q .l1) ∷
-    signedOf (m .latest .q .l2) ∷
-    signedOf (m .latest .q .l3) ∷
+    inForce (m .latest .p) ∷ inForce (m .latest .q) ∷
+    signedOf (m .latest .p .l1) ∷ signedOf (m .latest .p .l2) ∷ signedOf (m .latest .p .l3) ∷
+    signedOf (m .latest .q .l1) ∷ signedOf (m .latest .q .l2) ∷ signedOf (m .latest .q .l3) ∷
     []
 
 -- the one of a number; none beyond
@@ -38,8 +33,8 @@ powerValues m =
     (powerRegister (meterT m) (m .latest .s) ∷ m .latest .s / 100 ∷ [])
 
 -- signed words are whole W or var, cut toward zero
-unfoldable pub signedValues : Meter → List ℕ
-signedValues m = map (λ (p : Signed). signedPower (p .negative) (p .magnitude)) (powersOf m)
+unfoldable pub signedWordValues : Meter → List ℕ
+signedWordValues m = map (λ (p : Signed). signedWord (p .negative) (p .magnitude)) (powersOf m)
 
 -- sign words: 0 for zero or more, 1 for negative
 unfoldable pub signValues : Meter → List ℕ
@@ -70,27 +65,15 @@ unfoldable pub plainValues : Meter → List ℕ
 plainValues m = 0 ∷ 0x11 ∷ 0x1114 ∷ (m .setup .standard ++ m .setup .output)
 
 -- what a meter shows, kind by kind in the order of paper 01's list of readings, from kind 1 on
-abbrev pub valuesOf : Meter → List (List ℕ)
-valuesOf m =
+abbrev pub kindsShown : Meter → List (List ℕ)
+kindsShown m =
     [] ∷
-    m .latest .voltages ∷
-    m .latest .currents ∷
-    powerValues m ∷
-    signedValues m ∷
-    countValues m ∷
-    lowValues m ∷
-    highValues m ∷
-    wrapValues m ∷
-    factorValues (factorOf (m .latest .factor)) ∷
-    signValues m ∷
-    (m .latest .sector ∷ []) ∷
-    (m .latest .frequency ∷ []) ∷
-    (m .given .ratios .kta ∷ []) ∷
-    (m .given .ratios .ktv ∷ []) ∷
-    (m .latest .sequence ∷ []) ∷
-    plainValues m ∷
+    m .latest .voltages ∷ m .latest .currents ∷ powerValues m ∷ signedWordValues m ∷
+    countValues m ∷ lowValues m ∷ highValues m ∷ wrapValues m ∷
+    factorValues (factorOf (m .latest .factor)) ∷ signValues m ∷ (m .latest .sector ∷ []) ∷ (m .latest .frequency ∷ []) ∷
+    (m .given .ratios .kta ∷ []) ∷ (m .given .ratios .ktv ∷ []) ∷ (m .latest .sequence ∷ []) ∷ plainValues m ∷
     []
 
 -- what it shows of a quantity; 0 where the number is none
 unfoldable pub shownOf : Meter → ℕ → ℕ
-shownOf m q = getD (getD (valuesOf m) (q / 64) []) (q % 64) 0
+shownOf m q = getD (getD (kindsShown m) (q / 64) []) (q % 64) 0

@@ -5,8 +5,8 @@ use mathlib.Core.Bool.{Bool}
 use Rattle.words.specs.Signed.{twos}
 
 -- signed words (0x1518 on) are whole W or var, cut toward zero
-abbrev pub signedPower : Bool → ℕ → ℕ
-signedPower negative hundredths = twos 2 negative (hundredths / 100)
+abbrev pub signedWord : Bool → ℕ → ℕ
+signedWord negative hundredths = twos 2 negative (hundredths / 100)
 
 -- power factor in hundredths is thousandths cut toward zero
 abbrev pub factorHundredths : Bool → ℕ → ℕ

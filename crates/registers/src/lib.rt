@@ -8,7 +8,7 @@ ghost use lib.ListN.{getD};
 ghost use Rattle.signed.specs.Signs.{signWord};
 ghost use Rattle.meter.specs.Samples.{factorOf};
 ghost use Rattle.meter.specs.Meters.{meterOk, energyAt};
-ghost use Rattle.registers.specs.Shown.{powerAt, powerValues, signedValues, signValues, countValues, lowValues, highValues, wrapValues, factorValues, plainValues, shownOf};
+ghost use Rattle.registers.specs.Shown.{powerAt, powerValues, signedWordValues, signValues, countValues, lowValues, highValues, wrapValues, factorValues, plainValues, shownOf};
 use counts::WattHours;
 use directory::quantity::*;
 use meter::Meter;
@@ -83,7 +83,7 @@ fn power(m: Meter, which: u16) -> u32
 // Whole W or var: dividing the magnitude cuts toward zero, and a number cut to zero has no sign.
 fn signed_power(m: Meter, which: u16) -> u32
     requires { ⌜ meterOk m ≡ true ⌝ }
-    ensures { λ r. ⌜ r ≡ getD (signedValues m) which 0 ⌝ }
+    ensures { λ r. ⌜ r ≡ getD (signedWordValues m) which 0 ⌝ }
 {
     let p = power_at(m, which);
     words::twos_long(p.negative, (p.magnitude / ratio::WHOLE_UNIT) as u32)

@@ -12,12 +12,12 @@ use Rattle.refusal.specs.declared.ErrorCode.the-variants.{Address, Data}
 use Rattle.refusal.specs.Numbers.{errorBy}
 use Rattle.refusal.proofs.Distinct.{one-reason-each, caseIn, numberIn}
 use Rattle.setup.specs.Ranges.{groupOk}
-use Rattle.modbus.specs.Frame.{startOf, wordNumber, valuesOf, writeShaped}
+use Rattle.modbus.specs.Frame.{startOf, wordNumber, writeValues, writeShaped}
 use Rattle.meter.specs.declared.Meter.{Meter}
 use Rattle.meter.specs.Groups.{setupOk}
 use Rattle.meter.specs.Meters.{meterOk}
 use Rattle.meter.proofs.Parts.{meter-parts}
-use Rattle.meter.proofs.Answers.{other-within}
+use Rattle.meter.proofs.Accepts.{other-within}
 use Rattle.store.specs.declared.Verdict.{Verdict}
 use Rattle.store.specs.declared.Verdict.the-variants.{Good, Wrong}
 use Rattle.store.specs.declared.Written.{Written}
@@ -101,27 +101,27 @@ module _ (m k : Meter) where
 module _ (m : Meter) (frame : List ℕ) where
   is-judged : writtenOf m frame ≡ by-three m (storedOf m frame) (writeShaped frame) (toGroup frame) (fits frame)
   unfolding writtenOf
-  is-judged = three m (storedOf m frame) (writeShaped frame) (toGroup frame) (eqb (wordNumber frame) (groupWords frame)) (groupOk (startOf frame) (valuesOf frame))
+  is-judged = three m (storedOf m frame) (writeShaped frame) (toGroup frame) (eqb (wordNumber frame) (groupWords frame)) (groupOk (startOf frame) (writeValues frame))
 
-pub write-when : WriteWhen
-write-when =
+pub write-when : (m : Meter) (frame : List ℕ) → WriteWhen m frame
+write-when m frame =
     record {
-      error-02 = λ m frame. rw (is-judged m frame) (address-when m (storedOf m frame) (writeShaped frame) (toGroup frame) (fits frame));
-      error-03 = λ m frame. rw (is-judged m frame) (data-when m (storedOf m frame) (writeShaped frame) (toGroup frame) (fits frame));
-      legal = λ m frame. rw (is-judged m frame) (good-when m (storedOf m frame) (writeShaped frame) (toGroup frame) (fits frame));
-      only = λ m frame. rw (is-judged m frame) (only-these m (storedOf m frame) (writeShaped frame) (toGroup frame) (fits frame));
-      kept = λ m frame. rw (is-judged m frame) (keeps m (storedOf m frame) (writeShaped frame) (toGroup frame) (fits frame));
-      stored = λ m frame. rw (is-judged m frame) (stores m (storedOf m frame) (writeShaped frame) (toGroup frame) (fits frame));
+      error-02 = rw (is-judged m frame) (address-when m (storedOf m frame) (writeShaped frame) (toGroup frame) (fits frame));
+      error-03 = rw (is-judged m frame) (data-when m (storedOf m frame) (writeShaped frame) (toGroup frame) (fits frame));
+      legal = rw (is-judged m frame) (good-when m (storedOf m frame) (writeShaped frame) (toGroup frame) (fits frame));
+      only = rw (is-judged m frame) (only-these m (storedOf m frame) (writeShaped frame) (toGroup frame) (fits frame));
+      kept = rw (is-judged m frame) (keeps m (storedOf m frame) (writeShaped frame) (toGroup frame) (fits frame));
+      stored = rw (is-judged m frame) (stores m (storedOf m frame) (writeShaped frame) (toGroup frame) (fits frame));
     }
 
 -- ---- within limits
 
 module _ (m : Meter) (frame : List ℕ) (hm : meterOk m ≡ true) (t : toGroup frame ≡ true) (f : fits frame ≡ true) where
   -- the values are in the range of the group that they go to
-  ranged : (address : ℕ) → eqb (startOf frame) address ≡ true → groupOk address (valuesOf frame) ≡ true
+  ranged : (address : ℕ) → eqb (startOf frame) address ≡ true → groupOk address (writeValues frame) ≡ true
   ranged address s =
       let in-range = and-eq-true-iff (eqb (wordNumber frame) (groupWords frame)) _ .0 f .1 in
-      ap (λ (a : ℕ). groupOk a (valuesOf frame)) (sym (eqb-true _ _ s)) ∙ in-range
+      ap (λ (a : ℕ). groupOk a (writeValues frame)) (sym (eqb-true _ _ s)) ∙ in-range
 
   groups : (groupOk 0x2000 (m .setup .standard) ≡ true) × (groupOk 0x2200 (m .setup .output) ≡ true)
   groups = and-eq-true-iff (groupOk 0x2000 (m .setup .standard)) _ .0 (meter-parts m hm .setup)
@@ -136,10 +136,10 @@ module _ (m : Meter) (frame : List ℕ) (hm : meterOk m ≡ true) (t : toGroup f
   stored-within = other-within m (replacedIn (m .setup) frame) hm (replaced-within (toStandard frame) refl)
 
 by-verdict : (m : Meter) (frame : List ℕ) → meterOk m ≡ true → (v : Verdict) → writtenOf m frame .verdict ≡ v → meterOk (writtenOf m frame .meter) ≡ true
-by-verdict m frame h (Wrong code) e = ap meterOk (write-when .kept m frame code e) ∙ h
+by-verdict m frame h (Wrong code) e = ap meterOk (write-when m frame .kept code e) ∙ h
 by-verdict m frame h Good e =
-    let l = write-when .legal m frame .0 e in
-    ap meterOk (write-when .stored m frame e) ∙ stored-within m frame h (l .1) (l .2)
+    let l = write-when m frame .legal .0 e in
+    ap meterOk (write-when m frame .stored e) ∙ stored-within m frame h (l .1) (l .2)
 
 -- a write keeps a record within limits
 pub write-within : (m : Meter) (frame : List ℕ) → meterOk m ≡ true → meterOk (writtenOf m frame .meter) ≡ true

@@ -9,7 +9,7 @@ use Rattle.refusal.specs.declared.ErrorCode.{ErrorCode}
 use Rattle.refusal.specs.declared.ErrorCode.the-variants.{Address, Data}
 use Rattle.refusal.specs.Numbers.{errorNumber, errorBy}
 use Rattle.setup.specs.Ranges.{groupOk}
-use Rattle.modbus.specs.Frame.{startOf, wordNumber, valuesOf, writeShaped}
+use Rattle.modbus.specs.Frame.{startOf, wordNumber, writeValues, writeShaped}
 use Rattle.meter.specs.declared.groups.Setup.{Setup}
 use Rattle.meter.specs.declared.Meter.{Meter}
 use Rattle.meter.specs.Groups.{withStandard, withOutput}
@@ -17,6 +17,11 @@ use Rattle.meter.specs.Meters.{withSetup}
 use Rattle.store.specs.declared.Verdict.{Verdict}
 use Rattle.store.specs.declared.Verdict.the-variants.{Good, Wrong}
 use Rattle.store.specs.declared.Written.{Written}
+
+-- a verdict in numbers: 0; the error code
+abbrev pub verdictTold : Verdict → List ℕ
+verdictTold Good = 0 ∷ []
+verdictTold (Wrong code) = errorBy (errorNumber code)
 
 -- the group of 16 words (0x2000)
 abbrev pub toStandard : List ℕ → Bool
@@ -36,7 +41,7 @@ groupWords frame = cond (toStandard frame) 16 24
 
 -- the group is replaced whole
 abbrev pub replacedIn : Setup → List ℕ → Setup
-replacedIn s frame = cond (toStandard frame) (withStandard s (valuesOf frame)) (withOutput s (valuesOf frame))
+replacedIn s frame = cond (toStandard frame) (withStandard s (writeValues frame)) (withOutput s (writeValues frame))
 
 -- and so stored, and nothing else
 abbrev pub storedOf : Meter → List ℕ → Meter
@@ -56,30 +61,24 @@ writtenOf m frame =
     -- word number not 16, or 24, for that group: error 03
     (cond (not (eqb (wordNumber frame) (groupWords frame))) (wrongOf m Data)
     -- a value out of range: error 03
-    (cond (not (groupOk (startOf frame) (valuesOf frame))) (wrongOf m Data)
+    (cond (not (groupOk (startOf frame) (writeValues frame))) (wrongOf m Data)
     -- else the group is stored
     (record { verdict = Good; meter = storedOf m frame }))))
 
 -- its words are that group's, and each value is in range
 abbrev pub fits : List ℕ → Bool
-fits frame = eqb (wordNumber frame) (groupWords frame) && groupOk (startOf frame) (valuesOf frame)
+fits frame = eqb (wordNumber frame) (groupWords frame) && groupOk (startOf frame) (writeValues frame)
 
--- a verdict in numbers: 0; the error code
-abbrev pub verdictTold : Verdict → List ℕ
-verdictTold Good = 0 ∷ []
-verdictTold (Wrong code) = errorBy (errorNumber code)
+module _ (m : Meter) (frame : List ℕ) where
+  -- how it is judged, in numbers
+  abbrev Judged : List ℕ → Type 0
+  Judged numbers = verdictTold (writtenOf m frame .verdict) ≡ numbers
 
--- STATEMENT: of a write, error 02 and error 03 are due exactly when, and no other; it is stored exactly when neither is
-pub record WriteWhen : Type 0 where
-  pub error-02 :
-      (m : Meter) (frame : List ℕ) →
-      (verdictTold (writtenOf m frame .verdict) ≡ errorBy 2) ↔ ((writeShaped frame ≡ true) × (toGroup frame ≡ false))
-  pub error-03 :
-      (m : Meter) (frame : List ℕ) → (verdictTold (writtenOf m frame .verdict) ≡ errorBy 3) ↔
-      ((writeShaped frame ≡ false) ⊎ ((toGroup frame ≡ true) × (fits frame ≡ false)))
-  pub legal :
-      (m : Meter) (frame : List ℕ) →
-      (writtenOf m frame .verdict ≡ Good) ↔ ((writeShaped frame ≡ true) × (toGroup frame ≡ true) × (fits frame ≡ true))
-  pub only : (m : Meter) (frame : List ℕ) (n : ℕ) → verdictTold (writtenOf m frame .verdict) ≡ errorBy n → (n ≡ 2) ⊎ (n ≡ 3)
-  pub kept : (m : Meter) (frame : List ℕ) (code : ErrorCode) → writtenOf m frame .verdict ≡ Wrong code → writtenOf m frame .meter ≡ m
-  pub stored : (m : Meter) (frame : List ℕ) → writtenOf m frame .verdict ≡ Good → writtenOf m frame .meter ≡ storedOf m frame
+  -- STATEMENT: when a write is answered with error 02 and when with error 03, and no other; else it is legal and stored
+  pub record WriteWhen : Type 0 where
+    pub error-02 : Judged (errorBy 2) ↔ ((writeShaped frame ≡ true) × (toGroup frame ≡ false))
+    pub error-03 : Judged (errorBy 3) ↔ ((writeShaped frame ≡ false) ⊎ ((toGroup frame ≡ true) × (fits frame ≡ false)))
+    pub legal : (writtenOf m frame .verdict ≡ Good) ↔ ((writeShaped frame ≡ true) × (toGroup frame ≡ true) × (fits frame ≡ true))
+    pub only : (n : ℕ) → Judged (errorBy n) → (n ≡ 2) ⊎ (n ≡ 3)
+    pub kept : (code : ErrorCode) → writtenOf m frame .verdict ≡ Wrong code → writtenOf m frame .meter ≡ m
+    pub stored : writtenOf m frame .verdict ≡ Good → writtenOf m frame .meter ≡ storedOf m frame

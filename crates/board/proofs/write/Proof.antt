@@ -38,7 +38,7 @@ put-echo-requires c κs =
     let s = c .before .before .before .before .before .before .before .before .before in
     let w = c .before .before .before .before .before .before .write in
     let good : writtenOf (s .args .meter) (s .args .frame .now) .verdict ≡ Good = ap (λ (x : Written). x .verdict) (sym (w .ensures)) ∙ c .before .enum-told .given .1 in
-    (omega (arith, shaped-length (s .args .frame .now) (write-when .legal (s .args .meter) (s .args .frame .now) .0 good .0) .0), s .pre .1 .1)
+    (omega (arith, shaped-length (s .args .frame .now) (write-when (s .args .meter) (s .args .frame .now) .legal .0 good .0) .0), s .pre .1 .1)
 
 enum-known-verdict : tie.Need-enum-known-verdict
 enum-known-verdict c = search needs

@@ -1,8 +1,8 @@
 -- The tests are the definition's own, in its order; what is left is a count of steps.
 use mathlib.Core.Path.{sym, _∙_}
 use native.Mathlib.Omega.{arith}
-use borrow.Author.Tests.{le-leb, lt-leb, not-true, not-false}
-use Rattle.counts.specs.Energies.{topCount, joinOf}
+use borrow.Author.Tests.{lt-ltb, le-ltb, not-true, not-false}
+use Rattle.counts.specs.Counting.{topCount, joinOf}
 use borrow.Author.Needs.{needs}
 use Rattle.counts.proofs.join.Statement.{statement}
 use Rattle.counts.proofs.join.Tie as tie
@@ -16,7 +16,7 @@ returns c = simp (sym (c .before .within .ensures) ∙ not-true _ (c .if1 .taken
 
 returns-2 : tie.Need-returns-2
 unfolding joinOf
-returns-2 c = simp (sym (c .before .before .before .within .ensures) ∙ not-false _ (c .before .before .if1 .left), lt-leb (c .before .before .before .before .args .count .0) topCount (omega arith))
+returns-2 c = simp (sym (c .before .before .before .within .ensures) ∙ not-false _ (c .before .before .if1 .left), lt-ltb topCount (c .before .before .before .before .args .count .0) (omega arith))
 
 mul-counts : tie.Need-mul-counts
 mul-counts c = search needs
@@ -38,7 +38,7 @@ unfolding joinOf
 returns-3 c =
     let e = c .before .before .before in
     rw (c .stepped .ensures, c .before .tenths .ensures)
-    (simp (sym (e .before .before .before .within .ensures) ∙ not-false _ (e .before .before .if1 .left), le-leb (e .before .before .before .before .args .count .0) topCount (omega arith)))
+    (simp (sym (e .before .before .before .within .ensures) ∙ not-false _ (e .before .before .if1 .left), le-ltb topCount (e .before .before .before .before .args .count .0) (omega arith)))
 
 pub join-spec : {M : Type 1} → statement M
 join-spec =

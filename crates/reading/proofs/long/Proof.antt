@@ -5,7 +5,7 @@ use native.Mathlib.Nat.{mul-le-mul}
 use native.Mathlib.Omega.{arith}
 use lib.Dec.{leb}
 use Rattle.signed.specs.declared.Signed.{Signed}
-use Rattle.counts.specs.Energies.{topCount}
+use Rattle.counts.specs.Counting.{topCount}
 use Rattle.directory.proofs.ByKind.{kind-past}
 use Rattle.reading.specs.declared.Answer.the-variants.{Reading}
 use Rattle.reading.specs.declared.Quantity.the-variants.{Power, SignedPower, Factor}

@@ -3,8 +3,9 @@ use mathlib.Core.Path.{_≡_, sym, ap, _∙_}
 use mathlib.Core.Bool.{Bool, true}
 use Prim.Native.Nat.{ℕ}
 use borrow.Author.Tests.{not-true, not-false}
+use Rattle.meter.specs.declared.Answer.the-variants.{Accepted}
 use Rattle.meter.specs.Samples.{sampleOk}
-use Rattle.meter.specs.Meters.{meterT, meterOk, acceptedOf}
+use Rattle.meter.specs.Meters.{meterT, meterOk, answerWith}
 use Rattle.meter.specs.After.{nextOf, meterWithinTop}
 use Rattle.meter.proofs.Cases.{after-1, after-5, after-6, after-accepted}
 use borrow.Author.Needs.{needs}
@@ -77,7 +78,7 @@ returns-4 c =
     let e = t .before .before in
     let s = e .before .before .before .before .before in
     let accepted = after-accepted (s .args .self) (s .args .sample) (in-limits (e .before .before .before)) (sample-in e) (top-found t (not-false _ (c .if3 .left))) in
-    ap acceptedOf (t .before .counted .ensures) ∙ sym accepted
+    ap (answerWith Accepted) (t .before .counted .ensures) ∙ sym accepted
 
 pub after-spec : {M : Type 1} → statement M
 after-spec =

@@ -32,13 +32,13 @@ use Rattle.modbus.proofs.Judged.{legal-read}
 use Rattle.reading.specs.declared.Quantity.{Quantity}
 use Rattle.reading.specs.declared.Answer.{Answer}
 use Rattle.reading.specs.declared.Answer.the-variants.{Reading, Error, Refused}
-use Rattle.reading.specs.Cases.{told}
+use Rattle.reading.specs.Told.{told}
 use Rattle.reading.specs.Readings.{readingOf}
 use Rattle.reading.proofs.Told.{one-answer-each}
 use Rattle.reading.proofs.Thirteen.{Entry, item-entry, refused-at}
 use Rattle.reading.proofs.Thirteen.Entry.{reads, refused}
 use Rattle.collector.specs.Collector.{heard, lengthWrong, isReadError, foreign, thirdOf, codeOf, errorOf, misfit, placeOf, itemOf, replyOf, collectorIn}
-use Rattle.collector.specs.Answers.{Asks, Asked, Sound, Fits, Holds, itemAt, valueIn, errorMisfit, Foreign, Misfits, Past, Impossible, Comes, Errs, Reads, Rows, ExactlyWhen, NotMisread}
+use Rattle.collector.specs.When.{Asks, Asked, Sound, Fits, Holds, itemAt, valueIn, errorMisfit, Foreign, Misfits, Past, Impossible, ReplyGives, GivesCode, Reads, RepliesWhen, NotMisread}
 use Rattle.collector.proofs.Places.{run-length, run-at, item-past, item-reads}
 use Rattle.collector.proofs.Judged.{length-refused, crc-refused, foreign-refused, error-given, misfit-refused, item-given, fitting}
 
@@ -144,7 +144,7 @@ module _ (v : View) (good : T (passes v)) where
     row EnergyPastTop h = absurd h
     row JoinPastTop h = absurd h
 
-    errs : (code : ErrorCode) → Errs v request reply r (errorNumber code) → answer ≡ Error code
+    errs : (code : ErrorCode) → GivesCode v request reply r (errorNumber code) → answer ≡ Error code
     errs code h =
         let s = h .sound in
         to-reply (s .asked) ∙ sym (error-given _ _ _ _ _ (s .long) (s .whole) (s .own) (h .error)) ∙ error-code reply code (h .long) (h .says)
@@ -156,7 +156,7 @@ module _ (v : View) (good : T (passes v)) where
 
   pub data Outcome (request reply : List ℕ) (r : Ratios) (index : ℕ) : Type 0 where
     refuses : (reason : Refusal) → Row reason request reply r index → Outcome request reply r index
-    errors : (code : ErrorCode) → Errs v request reply r (errorNumber code) → Outcome request reply r index
+    errors : (code : ErrorCode) → GivesCode v request reply r (errorNumber code) → Outcome request reply r index
     tells : (q : Quantity) → Reads v request reply r index q → Outcome request reply r index
 
   module _ (request reply : List ℕ) (r : Ratios) (index : ℕ) where
@@ -250,10 +250,10 @@ module _ (v : View) (good : T (passes v)) where
     given = collectorIn v request reply r index
 
     -- what each outcome says in numbers
-    refuses-told : (reason : Refusal) → Row reason request reply r index → Comes v request reply r index (refusedBy (refusalNumber reason))
+    refuses-told : (reason : Refusal) → Row reason request reply r index → ReplyGives v request reply r index (refusedBy (refusalNumber reason))
     refuses-told reason w = ap told (row request reply r index reason w)
 
-    errors-told : (code : ErrorCode) → Errs v request reply r (errorNumber code) → Comes v request reply r index (errorBy (errorNumber code))
+    errors-told : (code : ErrorCode) → GivesCode v request reply r (errorNumber code) → ReplyGives v request reply r index (errorBy (errorNumber code))
     errors-told code e = ap told (errs request reply r index code e)
 
     -- a refusal is due to its row
@@ -262,7 +262,7 @@ module _ (v : View) (good : T (passes v)) where
     only-row reason h (errors code e) = absurd (let z = ap caseIn (sym (errors-told code e) ∙ ap told h) in omega (arith, z))
     only-row reason h (tells q e) = absurd (let z = ap caseIn (ap told (sym (reading request reply r index q e) ∙ h)) in omega (arith, z))
 
-    by-number : (reason : Refusal) → Comes v request reply r index (refusedBy (refusalNumber reason)) ↔ Row reason request reply r index
+    by-number : (reason : Refusal) → ReplyGives v request reply r index (refusedBy (refusalNumber reason)) ↔ Row reason request reply r index
     by-number reason = (λ h. only-row reason (one-answer-each .answers given (Refused reason) h) (outcome request reply r index), refuses-told reason)
 
     -- the numbers of the rows
@@ -282,18 +282,18 @@ module _ (v : View) (good : T (passes v)) where
     numbered EnergyPastTop w = absurd w
     numbered JoinPastTop w = absurd w
 
-    only : (n : ℕ) → Comes v request reply r index (refusedBy n) → Outcome request reply r index → (n ≡ 3) ⊎ ((7 ≤ n) × (n ≤ 13))
+    only : (n : ℕ) → ReplyGives v request reply r index (refusedBy n) → Outcome request reply r index → (n ≡ 3) ⊎ ((7 ≤ n) × (n ≤ 13))
     only n h (refuses x w) = subst (λ (k : ℕ). (k ≡ 3) ⊎ ((7 ≤ k) × (k ≤ 13))) (ap numberIn (sym (refuses-told x w) ∙ h)) (numbered x w)
     only n h (errors code e) = absurd (let z = ap caseIn (sym (errors-told code e) ∙ h) in omega (arith, z))
     only n h (tells q e) = absurd (let z = ap caseIn (sym (ap told (reading request reply r index q e)) ∙ h) in omega (arith, z))
 
-    only-error : (n : ℕ) → Comes v request reply r index (errorBy n) → Outcome request reply r index → Errs v request reply r n
+    only-error : (n : ℕ) → ReplyGives v request reply r index (errorBy n) → Outcome request reply r index → GivesCode v request reply r n
     only-error n h (refuses x w) = absurd (let z = ap caseIn (sym (refuses-told x w) ∙ h) in omega (arith, z))
-    only-error n h (errors code e) = subst (λ (k : ℕ). Errs v request reply r k) (ap numberIn (sym (errors-told code e) ∙ h)) e
+    only-error n h (errors code e) = subst (λ (k : ℕ). GivesCode v request reply r k) (ap numberIn (sym (errors-told code e) ∙ h)) e
     only-error n h (tells q e) = absurd (let z = ap caseIn (sym (ap told (reading request reply r index q e)) ∙ h) in omega (arith, z))
 
     -- a code that is 1, 2 or 3 has its name
-    errs-told : (n : ℕ) → Errs v request reply r n → Comes v request reply r index (errorBy n)
+    errs-told : (n : ℕ) → GivesCode v request reply r n → ReplyGives v request reply r index (errorBy n)
     errs-told zero e = absurd (omega (arith, e .some))
     errs-told (suc zero) e = errors-told Function e
     errs-told (suc (suc zero)) e = errors-told Address e
@@ -305,8 +305,8 @@ module _ (v : View) (good : T (passes v)) where
     only-reading q h (errors code e) = absurd (let z = ap caseIn (sym (errors-told code e) ∙ ap told h) in omega (arith, z))
     only-reading q h (tells x e) = subst (λ (c : Quantity). Reads v request reply r index c) (ap (quantityIn q) (sym (reading request reply r index x e) ∙ h)) e
 
-    rows : Rows v request reply r index
-    rows = record {
+    pub replies-when : RepliesWhen v request reply r index
+    replies-when = record {
       row-3 = by-number RatioOutOfLimits;
       row-7 = by-number NotARead;
       row-8 = by-number ReplyLength;
@@ -327,11 +327,9 @@ same-address request reply h =
     let n = neither (not (eqb (addressOf reply) (addressOf request))) _ h in
     eqb-true (addressOf reply) (addressOf request) (not-false _ (n .0))
 
-pub exactly-when : (v : View) → T (passes v) → ExactlyWhen v
-exactly-when v good = record { rows = rows v good }
-
-pub not-misread : (v : View) → T (passes v) → NotMisread v
-not-misread v good = record {
-  reading = λ request reply r index q h. let f = rows v good request reply r index .reading q .0 h .holds .fits in (f .sound .whole, same-address request reply (f .sound .own), fitting request reply (f .fits));
-  error = λ request reply r index code h. let s = rows v good request reply r index .error (errorNumber code) .0 (ap told h) .sound in (s .whole, same-address request reply (s .own));
-}
+module _ (v : View) (good : T (passes v)) (request reply : List ℕ) (r : Ratios) (index : ℕ) where
+  pub not-misread : NotMisread v request reply r index
+  not-misread = record {
+    reading = λ q h. let f = replies-when v good request reply r index .reading q .0 h .holds .fits in (f .sound .whole, same-address request reply (f .sound .own), fitting request reply (f .fits));
+    error = λ code h. let s = replies-when v good request reply r index .error (errorNumber code) .0 (ap told h) .sound in (s .whole, same-address request reply (s .own));
+  }

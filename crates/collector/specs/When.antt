@@ -14,7 +14,7 @@ use Rattle.words.specs.Words.{valueAt}
 use Rattle.ratio.specs.declared.Ratios.{Ratios}
 use Rattle.ratio.specs.Ratios.{ratiosOk, tOf}
 use Rattle.counts.specs.declared.Count.{Count}
-use Rattle.counts.specs.Energies.{topCount, topLow, topHigh, joinOf, joinHalvesOf, joinTold}
+use Rattle.counts.specs.Counting.{topCount, topLow, topHigh, joinOf, joinHalvesOf, joinTold}
 use Rattle.directory.specs.declared.Item.{Item}
 use Rattle.directory.specs.declared.Span.the-variants.{Items}
 use Rattle.directory.specs.Item.{none}
@@ -23,8 +23,9 @@ use Rattle.directory.specs.Views.{View}
 use Rattle.modbus.specs.Frame.{addressOf, wordNumber}
 use Rattle.modbus.specs.Read.{readIn}
 use Rattle.reading.specs.declared.Quantity.{Quantity}
+use Rattle.reading.specs.declared.Answer.{Answer}
 use Rattle.reading.specs.declared.Answer.the-variants.{Reading, Error}
-use Rattle.reading.specs.Cases.{told}
+use Rattle.reading.specs.Told.{told}
 use Rattle.reading.specs.Readings.{readingOf}
 use Rattle.reading.specs.Impossible.{thirteen}
 use Rattle.collector.specs.Collector.{heard, lengthWrong, isReadError, foreign, thirdOf, misfit, placeOf, collectorIn}
@@ -100,7 +101,7 @@ module _ (v : View) where
     pub value : thirteen (itemAt (askedBy (holds .fits)) index) (valueIn (askedBy (holds .fits)) reply index) ≡ true
 
   -- the meter's error code, given after 11 whatever the index
-  pub record Errs (request reply : List ℕ) (r : Ratios) (code : ℕ) : Type 0 where
+  pub record GivesCode (request reply : List ℕ) (r : Ratios) (code : ℕ) : Type 0 where
     pub sound : Sound request reply r
     pub error : isReadError reply ≡ true
     pub long : length reply ≡ 5
@@ -113,41 +114,43 @@ module _ (v : View) where
     pub holds : Holds request reply r index
     pub reading : readingOf (tOf r) (itemAt (askedBy (holds .fits)) index) (valueIn (askedBy (holds .fits)) reply index) ≡ Reading q
 
-  -- an answer in the paper's numbers
-  abbrev pub Comes : List ℕ → List ℕ → Ratios → ℕ → List ℕ → Type 0
-  Comes request reply r index numbers = told (collectorIn v request reply r index) ≡ numbers
+  -- ---- a reply to a request, of which one item is asked, told some ratios
 
-  -- of one call: the rows of the table by their numbers, in the paper's reading order, first that applies; no other number; the error
-  -- codes; the readings
-  pub record Rows (request reply : List ℕ) (r : Ratios) (index : ℕ) : Type 0 where
-    pub row-3 : Comes request reply r index (refusedBy 3) ↔ (ratiosOk r ≡ false)
-    pub row-7 : Comes request reply r index (refusedBy 7) ↔ ((ratiosOk r ≡ true) × (Asks request → ⊥))
-    pub row-8 : Comes request reply r index (refusedBy 8) ↔ (Asked request r × (lengthWrong reply ≡ true))
-    pub row-9 : Comes request reply r index (refusedBy 9) ↔ (Asked request r × (lengthWrong reply ≡ false) × (intact reply ≡ false))
-    pub row-10 : Comes request reply r index (refusedBy 10) ↔ Foreign request reply r
-    pub row-11 : Comes request reply r index (refusedBy 11) ↔ Misfits request reply r
-    pub row-12 : Comes request reply r index (refusedBy 12) ↔ Past request reply r index
-    pub row-13 : Comes request reply r index (refusedBy 13) ↔ Impossible request reply r index
-    pub only : (n : ℕ) → Comes request reply r index (refusedBy n) → (n ≡ 3) ⊎ ((7 ≤ n) × (n ≤ 13))
-    pub error : (code : ℕ) → Comes request reply r index (errorBy code) ↔ Errs request reply r code
-    pub reading : (q : Quantity) → (collectorIn v request reply r index ≡ Reading q) ↔ Reads request reply r index q
+  module _ (request reply : List ℕ) (r : Ratios) (index : ℕ) where
+    -- what the collector gives
+    abbrev given : Answer
+    given = collectorIn v request reply r index
 
-  -- STATEMENT: each refusal, each error code and each reading is given exactly when its row or rule says
-  pub record ExactlyWhen : Type 0 where
-    pub rows : (request reply : List ℕ) (r : Ratios) (index : ℕ) → Rows request reply r index
+    -- the same in the paper's numbers
+    abbrev pub ReplyGives : List ℕ → Type 0
+    ReplyGives numbers = told given ≡ numbers
 
-  -- STATEMENT: nothing is read out of a reply whose CRC is wrong, whose address is another's, or whose words are not as many as were asked
-  pub record NotMisread : Type 0 where
-    pub reading :
-        (request reply : List ℕ) (r : Ratios) (index : ℕ) (q : Quantity) → collectorIn v request reply r index ≡ Reading q →
-        (intact reply ≡ true) × (addressOf reply ≡ addressOf request) × (length reply ≡ 5 + 2 * wordNumber request)
-    pub error :
-        (request reply : List ℕ) (r : Ratios) (index : ℕ) (code : ErrorCode) → collectorIn v request reply r index ≡ Error code →
-        (intact reply ≡ true) × (addressOf reply ≡ addressOf request)
+    -- STATEMENT: when each refusal is given, by its number and in the paper's reading order, first that applies, and no other number;
+    -- when each error code; when each reading
+    pub record RepliesWhen : Type 0 where
+      pub row-3 : ReplyGives (refusedBy 3) ↔ (ratiosOk r ≡ false)
+      pub row-7 : ReplyGives (refusedBy 7) ↔ ((ratiosOk r ≡ true) × (Asks request → ⊥))
+      pub row-8 : ReplyGives (refusedBy 8) ↔ (Asked request r × (lengthWrong reply ≡ true))
+      pub row-9 : ReplyGives (refusedBy 9) ↔ (Asked request r × (lengthWrong reply ≡ false) × (intact reply ≡ false))
+      pub row-10 : ReplyGives (refusedBy 10) ↔ Foreign request reply r
+      pub row-11 : ReplyGives (refusedBy 11) ↔ Misfits request reply r
+      pub row-12 : ReplyGives (refusedBy 12) ↔ Past request reply r index
+      pub row-13 : ReplyGives (refusedBy 13) ↔ Impossible request reply r index
+      pub only : (n : ℕ) → ReplyGives (refusedBy n) → (n ≡ 3) ⊎ ((7 ≤ n) × (n ≤ 13))
+      pub error : (code : ℕ) → ReplyGives (errorBy code) ↔ GivesCode request reply r code
+      pub reading : (q : Quantity) → (given ≡ Reading q) ↔ Reads request reply r index q
 
--- STATEMENT: joining: 3 (counts only), then 14, exactly when count, Low or High is over its top, and no other number
-pub record JoinsWhen : Type 0 where
-  pub row-3 : (r : Ratios) (c : Count) (wrap : ℕ) → (joinTold (joinOf r c wrap) ≡ refusedBy 3) ↔ (ratiosOk r ≡ false)
-  pub row-14 : (r : Ratios) (c : Count) (wrap : ℕ) → (joinTold (joinOf r c wrap) ≡ refusedBy 14) ↔ ((ratiosOk r ≡ true) × (topCount < c .0))
-  pub only : (r : Ratios) (c : Count) (wrap n : ℕ) → joinTold (joinOf r c wrap) ≡ refusedBy n → (n ≡ 3) ⊎ (n ≡ 14)
+    -- STATEMENT: nothing is read out of a reply whose CRC is wrong, whose address is another's, or whose words are not as many as were
+    -- asked
+    pub record NotMisread : Type 0 where
+      pub reading :
+          (q : Quantity) → given ≡ Reading q →
+          (intact reply ≡ true) × (addressOf reply ≡ addressOf request) × (length reply ≡ 5 + 2 * wordNumber request)
+      pub error : (code : ErrorCode) → given ≡ Error code → (intact reply ≡ true) × (addressOf reply ≡ addressOf request)
+
+-- STATEMENT: when a join is refused with 3 (counts only) and then with 14, count, Low or High over its top, and with no other number
+pub record JoinsWhen (r : Ratios) (c : Count) (wrap : ℕ) : Type 0 where
+  pub row-3 : (joinTold (joinOf r c wrap) ≡ refusedBy 3) ↔ (ratiosOk r ≡ false)
+  pub row-14 : (joinTold (joinOf r c wrap) ≡ refusedBy 14) ↔ ((ratiosOk r ≡ true) × (topCount < c .0))
+  pub only : (n : ℕ) → joinTold (joinOf r c wrap) ≡ refusedBy n → (n ≡ 3) ⊎ (n ≡ 14)
   pub halves : (low high n : ℕ) → (joinTold (joinHalvesOf low high) ≡ refusedBy n) ↔ ((n ≡ 14) × ((topLow < low) ⊎ (topHigh < high)))

@@ -2,9 +2,9 @@
 -- A register count is not yet an energy: `Count` and `WattHours` are kept apart until a step is applied.
 use mathlib.Core.Path.{_≡_}
 use Prim.Native.Nat.{ℕ, _+_, _*_, _/_, _%_, _≤_, _<_}
-use mathlib.Core.Bool.{true, _&&_, cond}
+use mathlib.Core.Bool.{true, _||_, not, cond}
 use mathlib.Core.List.{List, [], _∷_}
-use lib.Dec.{leb}
+use lib.Dec.{ltb}
 use Rattle.refusal.specs.declared.Refusal.the-variants.{RatioOutOfLimits, JoinPastTop}
 use Rattle.refusal.specs.Numbers.{refusalNumber, refusedBy}
 use Rattle.ratio.specs.declared.Ratios.{Ratios}
@@ -55,21 +55,21 @@ topHigh = 65535999
 abbrev pub topWh : ℕ
 topWh = 65535999999999
 
--- joins count and wrap: 3, then 14, else (wrap × 100,000,000 + count) × step
+-- joins count and wrap, (wrap × 100,000,000 + count) × step: the first that applies
 unfoldable pub joinOf : Ratios → Count → ℕ → Joined
 joinOf r c wrap =
-    cond (ratiosOk r)
-    (cond (leb (c .0) topCount)
-    (Energy (energyOf (tOf r) (wrap * 100000000 + c .0)))
-    (Refused JoinPastTop))
-    (Refused RatioOutOfLimits)
+    -- 3. KTA or KTV out of limits
+    cond (not (ratiosOk r)) (Refused RatioOutOfLimits)
+    -- 14. count over its top
+    (cond (ltb topCount (c .0)) (Refused JoinPastTop)
+    (Energy (energyOf (tOf r) (wrap * 100000000 + c .0))))
 
--- joins Low and High: 14, else High × 1,000,000 + Low
+-- joins Low and High, High × 1,000,000 + Low
 unfoldable pub joinHalvesOf : ℕ → ℕ → Joined
 joinHalvesOf low high =
-    cond (leb low topLow && leb high topHigh)
+    -- 14. Low or High over its top
+    cond (ltb topLow low || ltb topHigh high) (Refused JoinPastTop)
     (Energy (record { 0 = high * 1000000 + low }))
-    (Refused JoinPastTop)
 
 -- a join in numbers: 0 and the Wh; the number of the refusal
 abbrev pub joinTold : Joined → List ℕ

@@ -6,7 +6,7 @@ use mathlib.Core.List.{List, [], _∷_}
 use lib.Dec.{T, eqb}
 use lib.ListN.{length}
 use Rattle.directory.specs.declared.Item.{Item}
-use Rattle.directory.specs.Quantity.{energyCount, low, high, wrap, posEa, negEa, posEr, negEr}
+use Rattle.directory.specs.Quantity.{quantity, energyCount, low, high, wrap, posEa, negEa, posEr, negEr}
 use Rattle.directory.specs.Views.{passes}
 use Rattle.own.specs.Table.{directory}
 use Rattle.own.specs.Own.{own}
@@ -26,7 +26,11 @@ placesOf q (it ∷ its) = cond (eqb (it .quantity) q) (it .start ∷ placesOf q 
 -- the places of an energy: its registers in the byte block and in the words, its wrap, its Low and its High
 abbrev pub energyPlaces : ℕ → List (List ℕ)
 energyPlaces e =
-    placesOf (energyCount e) directory ∷ placesOf (wrap e) directory ∷ placesOf (low e) directory ∷ placesOf (high e) directory ∷ []
+    placesOf (quantity energyCount e) directory ∷
+    placesOf (quantity wrap e) directory ∷
+    placesOf (quantity low e) directory ∷
+    placesOf (quantity high e) directory ∷
+    []
 
 -- STATEMENT: one energy stands in three tables
 pub record ThreeTables : Type 0 where

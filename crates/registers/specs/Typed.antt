@@ -2,19 +2,18 @@
 -- where it is sent.
 use mathlib.Core.Path.{_≡_}
 use Prim.Native.Nat.{ℕ, _/_, _%_, _^_, _≤_, _<_}
-use mathlib.Core.Bool.{true}
 use mathlib.Core.List.{List, []}
 use lib.Dec.{T}
 use lib.ListN.{length, getD}
 use Rattle.directory.specs.declared.Item.{Item}
 use Rattle.directory.specs.Item.{none}
-use Rattle.directory.specs.Quantity.{widthOf}
+use Rattle.directory.specs.Quantity.{plain, widthOf}
 use Rattle.directory.specs.Order.{roomOf, tested}
 use Rattle.meter.specs.declared.samples.Sample.{Sample}
 use Rattle.meter.specs.declared.groups.Setup.{Setup}
 use Rattle.meter.specs.declared.Meter.{Meter}
-use Rattle.meter.specs.Meters.{meterOk, withSetup}
-use Rattle.registers.specs.Shown.{valuesOf, shownOf}
+use Rattle.meter.specs.Meters.{withSetup}
+use Rattle.registers.specs.Shown.{kindsShown, shownOf}
 
 -- a sample as a program holds it: its arrays have the lengths of their types, and its numbers their widths
 pub record SampleTyped (s : Sample) : Type 0 where
@@ -24,31 +23,30 @@ pub record SampleTyped (s : Sample) : Type 0 where
   pub current : (i : ℕ) → getD (s .currents) i 0 < 256 ^ 4
   pub frequency : s .frequency < 256 ^ 2
 
--- setup words as a program holds them: so many, each of two bytes
+-- setup words as a program holds them: n of them, each of two bytes
 pub record WordsTyped (n : ℕ) (words : List ℕ) : Type 0 where
   pub long : length words ≡ n
   pub word : (i : ℕ) → getD words i 0 < 256 ^ 2
 
--- so both groups of a setup
+-- both groups of a setup
 pub record SetupTyped (s : Setup) : Type 0 where
   pub standard : WordsTyped 16 (s .standard)
   pub output : WordsTyped 24 (s .output)
 
--- and a record
+-- a record as a program holds it
 pub record Typed (m : Meter) : Type 0 where
   pub latest : SampleTyped (m .latest)
   pub setup : SetupTyped (m .setup)
 
--- STATEMENT: a quantity is one of its kind's values, and what a meter within limits shows of it fits its bytes; each item of a directory
--- that passes the tests shows a quantity, and has room for it
-pub record EveryCase : Type 0 where
-  pub case : (m : Meter) → Typed m → meterOk m ≡ true → (q : ℕ) → 1 ≤ widthOf q → q % 64 < length (getD (valuesOf m) (q / 64) [])
-  pub fits : (m : Meter) → Typed m → meterOk m ≡ true → (q : ℕ) → shownOf m q < 256 ^ widthOf q
-  pub known : (dir : List Item) → T (tested dir) → (i : ℕ) → i < length dir → 1 ≤ widthOf (getD dir i none .quantity)
+-- STATEMENT: of a record as a program holds it, and within limits: a quantity is one of its kind's values, what is shown of it fits its
+-- bytes, and each item of a directory that passes the tests has room for what it shows
+pub record EveryCase (m : Meter) : Type 0 where
+  pub case : (q : ℕ) → 1 ≤ widthOf q → q % 64 < length (getD (kindsShown m) (q / 64) [])
+  pub fits : (q : ℕ) → shownOf m q < 256 ^ widthOf q
   pub room :
-      (dir : List Item) → T (tested dir) → (m : Meter) → Typed m → meterOk m ≡ true → (i : ℕ) → i < length dir →
+      (dir : List Item) → T (tested dir) → (i : ℕ) → i < length dir →
       shownOf m (getD dir i none .quantity) < 256 ^ roomOf (getD dir i none)
 
 -- STATEMENT: setup words alter no measurement: what is shown of every other kind is the same with others
-pub record SetupUnseen : Type 0 where
-  pub kinds : (m : Meter) (setup : Setup) (q : ℕ) → q / 64 < 16 → shownOf (withSetup m setup) q ≡ shownOf m q
+pub record SetupUnseen (m : Meter) (setup : Setup) : Type 0 where
+  pub kinds : (q : ℕ) → q / 64 < plain → shownOf (withSetup m setup) q ≡ shownOf m q

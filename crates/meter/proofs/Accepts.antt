@@ -14,7 +14,7 @@ use Rattle.signed.specs.Signs.{aboveOf, belowOf}
 use Rattle.ratio.specs.declared.Ratios.{Ratios}
 use Rattle.ratio.specs.Ratios.{ratiosOk, tOf}
 use Rattle.ratio.specs.Powers.{powerLimit}
-use Rattle.counts.specs.Energies.{topWh}
+use Rattle.counts.specs.Counting.{topWh}
 use Rattle.setup.specs.Ranges.{groupOk, wordOk}
 use Rattle.meter.specs.declared.samples.Sample.{Sample}
 use Rattle.meter.specs.declared.energies.Energy.{Energy}
@@ -27,9 +27,9 @@ use Rattle.meter.specs.declared.Meter.{Meter}
 use Rattle.meter.specs.Samples.{inForce, sampleOk, noSample}
 use Rattle.meter.specs.Energies.{energyOk, energiesOk, countersOk, plusOf, withPower, withPowers, withinTop, countersWithinTop}
 use Rattle.meter.specs.Groups.{setupOk}
-use Rattle.meter.specs.Meters.{meterT, meterOk, blankOf, refusedOf, acceptedOf, newOf, withSetup}
+use Rattle.meter.specs.Meters.{meterT, meterOk, blankOf, answerWith, answerTold, newOf, withSetup}
 use Rattle.meter.specs.After.{nextOf, meterWithinTop, afterOf}
-use Rattle.meter.specs.Answers.{answerTold, NewAnswers, SampleAnswers, SetupIdle}
+use Rattle.meter.specs.Accepts.{NewAnswers, SampleAnswers, SetupIdle}
 use Rattle.meter.proofs.Parts.{meter-parts, groups-within}
 use Rattle.meter.proofs.Cases.{chosen, after-accepted}
 use Rattle.meter.proofs.Outcomes.{by-number, firstOf, first-fails, second-fails, third-fails, none-fails, only-these, not-accepted}
@@ -69,15 +69,15 @@ sample-only m s n h = by (only-these _ _ _ (meterOk m) (sampleOk (meterT m) s) (
     by (inr (inl e)) = inr (inl e)
     by (inr (inr e)) = inr (inr (e .1))
 
-pub sample-answers : SampleAnswers
-sample-answers = record {
-  row-1 = λ m s. by-number (afterOf m s .answer) MeterOutOfLimits (rw (answer m s) (first-fails _ _ _ refl refl refl (meterOk m) (sampleOk (meterT m) s) (meterWithinTop (nextOf m s))));
-  row-5 = λ m s. by-number (afterOf m s .answer) SampleOutOfLimits (rw (answer m s) (second-fails _ _ _ refl refl refl (meterOk m) (sampleOk (meterT m) s) (meterWithinTop (nextOf m s))));
-  row-6 = λ m s. by-number (afterOf m s .answer) EnergyPastTop (rw (answer m s) (third-fails _ _ _ refl refl refl (meterOk m) (sampleOk (meterT m) s) (meterWithinTop (nextOf m s))));
-  only = sample-only;
-  accepted = accepted;
-  refused = refused;
-  counted = λ m s h. let t = accepted m s .0 h in ap (λ (r : Answered). r .meter) (after-accepted m s (t .0) (t .1) (t .2));
+pub sample-answers : (m : Meter) (s : Sample) → SampleAnswers m s
+sample-answers m s = record {
+  row-1 = by-number (afterOf m s .answer) MeterOutOfLimits (rw (answer m s) (first-fails _ _ _ refl refl refl (meterOk m) (sampleOk (meterT m) s) (meterWithinTop (nextOf m s))));
+  row-5 = by-number (afterOf m s .answer) SampleOutOfLimits (rw (answer m s) (second-fails _ _ _ refl refl refl (meterOk m) (sampleOk (meterT m) s) (meterWithinTop (nextOf m s))));
+  row-6 = by-number (afterOf m s .answer) EnergyPastTop (rw (answer m s) (third-fails _ _ _ refl refl refl (meterOk m) (sampleOk (meterT m) s) (meterWithinTop (nextOf m s))));
+  only = sample-only m s;
+  accepted = accepted m s;
+  refused = refused m s;
+  counted = λ h. let t = accepted m s .0 h in ap (λ (r : Answered). r .meter) (after-accepted m s (t .0) (t .1) (t .2));
 }
 
 -- ---- within limits
@@ -122,13 +122,20 @@ blank-within : (a : ℕ) (r : Ratios) → meterOk (blankOf a r) ≡ (leb 1 a && 
 unfolding meterOk groupOk wordOk
 blank-within a r = rw (blank-sample (tOf r)) (trues (leb 1 a && ratiosOk r))
 
+-- what follows from the two tests of a new meter, in their order
+abbrev made : Bool → Bool → Meter → Answered
+made x y m =
+    cond (not x) (answerWith (Refused RatioOutOfLimits) m)
+    (cond y (answerWith (Refused OwnAddressZero) m)
+    (answerWith Accepted m))
+
 module _ (a : ℕ) (r : Ratios) where
-  new-picked : (x y : Bool) (m : Meter) → cond x (cond y (refusedOf OwnAddressZero m) (acceptedOf m)) (refusedOf RatioOutOfLimits m) .answer ≡ firstOf RatioOutOfLimits OwnAddressZero EnergyPastTop x (not y) true
+  new-picked : (x y : Bool) (m : Meter) → made x y m .answer ≡ firstOf RatioOutOfLimits OwnAddressZero EnergyPastTop x (not y) true
   new-picked true true m = refl
   new-picked true false m = refl
   new-picked false y m = refl
 
-  new-same : (x y : Bool) (m : Meter) → cond x (cond y (refusedOf OwnAddressZero m) (acceptedOf m)) (refusedOf RatioOutOfLimits m) .meter ≡ m
+  new-same : (x y : Bool) (m : Meter) → made x y m .meter ≡ m
   new-same true true m = refl
   new-same true false m = refl
   new-same false y m = refl
@@ -184,14 +191,14 @@ new-within a r =
 pub made-within : (a : ℕ) (r : Ratios) → newOf a r .answer ≡ Accepted → meterOk (newOf a r .meter) ≡ true
 made-within a r made = ap meterOk (new-blank a r) ∙ new-within a r .0 made
 
-pub new-answers : NewAnswers
-new-answers = record {
-  row-3 = λ a r. by-number (newOf a r .answer) RatioOutOfLimits (rw (new-answer a r) (first-fails _ _ _ refl refl refl (ratiosOk r) (not (eqb a 0)) true));
-  row-4 = λ a r. by-number (newOf a r .answer) OwnAddressZero (four a r);
-  only = new-only;
-  accepted = new-accepted;
-  blank = new-blank;
-  within = new-within;
+pub new-answers : (a : ℕ) (r : Ratios) → NewAnswers a r
+new-answers a r = record {
+  row-3 = by-number (newOf a r .answer) RatioOutOfLimits (rw (new-answer a r) (first-fails _ _ _ refl refl refl (ratiosOk r) (not (eqb a 0)) true));
+  row-4 = by-number (newOf a r .answer) OwnAddressZero (four a r);
+  only = new-only a r;
+  accepted = new-accepted a r;
+  blank = new-blank a r;
+  within = new-within a r;
 }
 
 -- ---- setup words have no effect
@@ -217,5 +224,5 @@ module _ (m : Meter) (setup : Setup) where
   unfolding afterOf
   idle s hm hs = rw (hm, other-within hm hs) (same (sampleOk (meterT m) s) (meterWithinTop (nextOf m s)) (nextOf m s))
 
-pub setup-idle : SetupIdle
-setup-idle = record { sample = idle }
+pub setup-idle : (m : Meter) (s : Sample) (setup : Setup) → SetupIdle m s setup
+setup-idle m s setup = record { sample = idle m setup s }

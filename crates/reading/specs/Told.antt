@@ -3,59 +3,46 @@
 use mathlib.Core.Path.{_≡_}
 use Prim.Native.Nat.{ℕ}
 use mathlib.Core.List.{List, [], _∷_}
+use lib.ListN.{getD}
 use Rattle.refusal.specs.Numbers.{refusalNumber, errorNumber, refusedBy, errorBy}
 use Rattle.signed.specs.declared.Signed.{Signed}
 use Rattle.signed.specs.Signs.{signWord}
+use Rattle.directory.specs.Quantity.{voltage, current, power, signedPower, energyCount, low, high, wrap, factor, sign, sector, frequency, kta, ktv, sequence, plain}
 use Rattle.reading.specs.declared.Quantity.{Quantity}
 use Rattle.reading.specs.declared.Quantity.the-variants.{Voltage, Current, Power, SignedPower, Energy, Low, High, Wrap, Factor, Sign, Sector, Frequency, Kta, Ktv, Sequence, Plain}
 use Rattle.reading.specs.declared.Answer.{Answer}
 use Rattle.reading.specs.declared.Answer.the-variants.{Reading, Error, Refused}
 
--- the number of a reading in the paper's list
-abbrev pub kindOf : Quantity → ℕ
-kindOf (Voltage v) = 1
-kindOf (Current v) = 2
-kindOf (Power v) = 3
-kindOf (SignedPower s) = 4
-kindOf (Energy count step wh) = 5
-kindOf (Low v) = 6
-kindOf (High v) = 7
-kindOf (Wrap v) = 8
-kindOf (Factor s) = 9
-kindOf (Sign v) = 10
-kindOf (Sector v) = 11
-kindOf (Frequency v) = 12
-kindOf (Kta v) = 13
-kindOf (Ktv v) = 14
-kindOf (Sequence v) = 15
-kindOf (Plain v) = 16
-
 -- a signed value: 1 where it is negative, and its magnitude
-abbrev signedValues : Signed → List ℕ
-signedValues s = signWord (s .negative) ∷ s .magnitude ∷ []
+abbrev signedTold : Signed → List ℕ
+signedTold s = signWord (s .negative) ∷ s .magnitude ∷ []
 
--- the values of a reading
-abbrev pub valuesOf : Quantity → List ℕ
-valuesOf (Voltage v) = v ∷ []
-valuesOf (Current v) = v ∷ []
-valuesOf (Power v) = v ∷ []
-valuesOf (SignedPower s) = signedValues s
-valuesOf (Energy count step wh) = count .0 ∷ step ∷ wh .0 ∷ []
-valuesOf (Low v) = v ∷ []
-valuesOf (High v) = v ∷ []
-valuesOf (Wrap v) = v ∷ []
-valuesOf (Factor s) = signedValues s
-valuesOf (Sign v) = v ∷ []
-valuesOf (Sector v) = v ∷ []
-valuesOf (Frequency v) = v ∷ []
-valuesOf (Kta v) = v ∷ []
-valuesOf (Ktv v) = v ∷ []
-valuesOf (Sequence v) = v ∷ []
-valuesOf (Plain v) = v ∷ []
+-- a reading in numbers: its kind's number in the paper's list, and its values
+abbrev pub quantityTold : Quantity → List ℕ
+quantityTold (Voltage v) = voltage ∷ v ∷ []
+quantityTold (Current v) = current ∷ v ∷ []
+quantityTold (Power v) = power ∷ v ∷ []
+quantityTold (SignedPower s) = signedPower ∷ signedTold s
+quantityTold (Energy count step wh) = energyCount ∷ count .0 ∷ step ∷ wh .0 ∷ []
+quantityTold (Low v) = low ∷ v ∷ []
+quantityTold (High v) = high ∷ v ∷ []
+quantityTold (Wrap v) = wrap ∷ v ∷ []
+quantityTold (Factor s) = factor ∷ signedTold s
+quantityTold (Sign v) = sign ∷ v ∷ []
+quantityTold (Sector v) = sector ∷ v ∷ []
+quantityTold (Frequency v) = frequency ∷ v ∷ []
+quantityTold (Kta v) = kta ∷ v ∷ []
+quantityTold (Ktv v) = ktv ∷ v ∷ []
+quantityTold (Sequence v) = sequence ∷ v ∷ []
+quantityTold (Plain v) = plain ∷ v ∷ []
+
+-- the number of its kind
+abbrev pub kindOf : Quantity → ℕ
+kindOf q = getD (quantityTold q) 0 0
 
 -- an answer in numbers: 0 and the reading's number and values; the meter's error code; the number of the refusal
 abbrev pub told : Answer → List ℕ
-told (Reading q) = 0 ∷ kindOf q ∷ valuesOf q
+told (Reading q) = 0 ∷ quantityTold q
 told (Error code) = errorBy (errorNumber code)
 told (Refused reason) = refusedBy (refusalNumber reason)
 
