@@ -102,12 +102,12 @@ module _ (before : List ℕ) (n : ℕ) (room : Bool) (after : List ℕ) (p : Put
       rw (put-parts h, drop-at _ (drop (n + 2) before) (n + 2) (long h))
   beyond-if false e = ap (drop (n + 2)) (refused e)
 
-pub put-seals : PutSeals
-put-seals =
+pub put-seals : (before : List ℕ) (n : ℕ) (room : Bool) (after : List ℕ) → Put before n room after → PutSeals before n room after
+put-seals before n room after p =
     record {
-      front = front;
-      beyond = λ before n room after p. beyond-if before n room after p room refl;
-      refused = refused;
+      front = front before n room after p;
+      beyond = beyond-if before n room after p room refl;
+      refused = refused before n room after p;
     }
 
 -- a right shift keeps a number within 16 bits

@@ -64,10 +64,8 @@ pub record Put (before : List ℕ) (n : ℕ) (room : Bool) (after : List ℕ) : 
   pub answer : room ≡ leb (n + 2) (length before)
   pub bytes : after ≡ cond (leb (n + 2) (length before)) (sets before n (onLine (crcOf (take n before)))) before
 
--- STATEMENT: with room, the first n bytes are then sealed, and nothing else changed
-pub record PutSeals : Type 0 where
-  pub front :
-      (before : List ℕ) (n : ℕ) (room : Bool) (after : List ℕ) → Put before n room after → room ≡ true →
-      take (n + 2) after ≡ sealed (take n before)
-  pub beyond : (before : List ℕ) (n : ℕ) (room : Bool) (after : List ℕ) → Put before n room after → drop (n + 2) after ≡ drop (n + 2) before
-  pub refused : (before : List ℕ) (n : ℕ) (room : Bool) (after : List ℕ) → Put before n room after → room ≡ false → after ≡ before
+-- STATEMENT: of what `Put` allows: with room, the first n bytes are then sealed; nothing behind the CRC changes, and without room nothing
+pub record PutSeals (before : List ℕ) (n : ℕ) (room : Bool) (after : List ℕ) : Type 0 where
+  pub front : room ≡ true → take (n + 2) after ≡ sealed (take n before)
+  pub beyond : drop (n + 2) after ≡ drop (n + 2) before
+  pub refused : room ≡ false → after ≡ before

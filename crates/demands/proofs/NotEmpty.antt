@@ -70,7 +70,7 @@ module _ (v : View) (good : T (passes v)) where
       let own = ap (λ (g : Given). g .address) same in
       let meets : Meets m (p .request) (p .buffer) = record { within = after-events v good .within first xs (made-within address r made); room = p .room; own = own ∙ sym (p .own) } in
       ap (λ (g : Given). collectorIn v (p .request) (replyTo v m (p .request) (p .buffer)) (g .ratios) (p .index)) (sym same)
-      ∙ round-trip v good .reads m (p .request) (p .buffer) (p .index) (types-kept v good .events first xs (types-kept v good .new address r) typed) meets (p .asks) (p .below)
+      ∙ round-trip v good m (p .request) (p .buffer) meets .reads (p .index) (types-kept v good .events first xs (types-kept v good .new address r) typed) (p .asks) (p .below)
       ∙ ap (λ (x : ℕ). Reading (meaningOf m x)) (p .shows)
 
   pub reads-always : ReadsAlways v

@@ -56,7 +56,7 @@ module _ (v : View) (good : T (passes v)) where
         read-when v request .items i 1 .1 (
           refl,
           rw number (rw (le-ltb (it .words) 1 (narrow .some), le-ltb (v .most) (it .words) (omega (arith, narrow .few, passes-long v good))) refl),
-          rw (start, number) (alone i (it .start) it refl (directory-rules .found (v .seen) (passes-tested v good) i l) (it .words) refl (narrow .some) (narrow .few)),
+          rw (start, number) (alone i (it .start) it refl (directory-rules (v .seen) (passes-tested v good) .found i l) (it .words) refl (narrow .some) (narrow .few)),
         )
 
     loud : silence address request ≡ false
@@ -71,6 +71,6 @@ module _ (v : View) (good : T (passes v)) where
     hears = λ address i some l. hears address i l some;
     items = items;
     data-sent = λ m i b ok l room.
-        with-data v good .same m (requestFor (m .given .address) (getD (v .seen) i none)) b (record { within = ok; room = room; own = refl }) .0
+        with-data v good m (requestFor (m .given .address) (getD (v .seen) i none)) b (record { within = ok; room = room; own = refl }) .same .0
         (record { hears = hears (m .given .address) i l (own-address m ok); first = i; count = 1; items = items (m .given .address) i l });
   }

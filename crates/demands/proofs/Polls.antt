@@ -155,7 +155,7 @@ module _ (v : View) (good : T (passes v)) where
 
       fitting-words : Shows m (it .quantity) → shownOf m (it .quantity) < 65536 ^ it .words
       fitting-words fit =
-          let room = shape it (directory-rules .shapes (v .seen) (passes-tested v good) (a .first + index) known) .roomy in
+          let room = shape it (directory-rules (v .seen) (passes-tested v good) .shapes (a .first + index) known) .roomy in
           let narrow = ruled-narrow (v .seen) (passes-ruled v good) (a .first + index) known in
           rw (sym (two-bytes (it .words) (narrow .few))) (lt-of-lt-of-le (in-room (v .seen) (passes-tested v good) (a .first + index) known (fit .fits)) (pow-le-pow-right (omega arith) room))
 
@@ -249,13 +249,13 @@ module _ (v : View) (good : T (passes v)) where
         ap (λ (x : Outcome). replyIn (x .handled .reply) (x .buffer)) e ∙ sent-front bytes b (omega (arith, gives-long v good m request bytes n g, meets .room)) in
         from-data bytes n w (sym (ap isRead said) ∙ h) g
 
-  pub with-data : WithData v
-  with-data = record { same = λ m request b meets. (λ a. ap isRead (replies m request b meets a) ∙ hears request (a .hears) .read, λ h. from-reply m request b meets h (case v m request b)) }
+    pub with-data : WithData v m request b
+    with-data = record { same = (λ a. ap isRead (replies m request b meets a) ∙ hears request (a .hears) .read, λ h. from-reply h (case v m request b)) }
 
-  pub round-trip : RoundTrip v
-  round-trip = record {
-    reads = λ m request b index typed meets a below. collects m request b meets a index below (typed-shows (v .seen) (passes-tested v good) (a .first + index) (known m request b meets a index below) m typed (meets .within));
-    past = λ m request b index meets a over. ap (λ (reply : List ℕ). told (collectorIn v request reply (m .given .ratios) index)) (replies m request b meets a) ∙ past m request b meets a index over;
-    error = error-given;
-    other = λ m request b reply r index meets ok h. replies-when v good request reply r index .row-7 .1 (ok, λ a. false≢true (sym h ∙ with-data .same m request b meets .0 a));
-  }
+    pub round-trip : RoundTrip v m request b
+    round-trip = record {
+      reads = λ index typed a below. collects m request b meets a index below (typed-shows (v .seen) (passes-tested v good) (a .first + index) (known m request b meets a index below) m typed (meets .within));
+      past = λ index a over. ap (λ (reply : List ℕ). told (collectorIn v request reply (m .given .ratios) index)) (replies m request b meets a) ∙ past m request b meets a index over;
+      error = error-given request;
+      other = λ reply r index ok h. replies-when v good request reply r index .row-7 .1 (ok, λ a. false≢true (sym h ∙ with-data .same .0 a));
+    }

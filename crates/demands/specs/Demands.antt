@@ -1,19 +1,22 @@
 -- The customer's three demands: what each is in one line, and the statements that it comes to. Every STATEMENT of the tree is a part.
 use mathlib.Core.Path.{_≡_}
-use mathlib.Core.Bool.{true}
+use mathlib.Core.Bool.{Bool, true}
 use mathlib.Core.List.{List}
 use Prim.Native.Nat.{ℕ}
 use lib.Dec.{T}
 use Rattle.refusal.specs.Numbers.{OneReasonEach}
-use Rattle.crc.specs.Crc.{CrcFits, IntactIsSealed, PutSeals}
+use Rattle.crc.specs.Crc.{CrcFits, IntactIsSealed, Put, PutSeals}
 use Rattle.words.specs.Words.{ByteSent, ReadBack}
 use Rattle.words.specs.Signed.{SignedBack}
 use Rattle.lines.specs.Lines.{TextBack}
 use Rattle.ratio.specs.declared.Ratios.{Ratios}
 use Rattle.counts.specs.declared.Count.{Count}
 use Rattle.counts.specs.Counting.{JoinSplit}
+use Rattle.directory.specs.declared.Item.{Item}
+use Rattle.directory.specs.declared.Span.the-variants.{Items}
+use Rattle.directory.specs.Order.{ruled, tested}
 use Rattle.directory.specs.Rules.{DirectoryRules}
-use Rattle.directory.specs.Run.{RunSends}
+use Rattle.directory.specs.Run.{runIn, RunSends}
 use Rattle.directory.specs.Views.{View, passes}
 use Rattle.own.specs.OwnRules.{OwnPasses, ThreeTables}
 use Rattle.own.specs.Kinds.{KindsInOrder}
@@ -31,7 +34,7 @@ use Rattle.meter.specs.Accepts.{NewAnswers, SampleAnswers, SetupIdle}
 use Rattle.store.specs.Writes.{WriteWhen}
 use Rattle.registers.specs.Typed.{Typed, EveryCase, SetupUnseen}
 use Rattle.demands.specs.Frames.{FramesWhen, Obeys, Untouched, RepliesSealed, BufferUnseen}
-use Rattle.demands.specs.RoundTrip.{WithData, RoundTrip}
+use Rattle.demands.specs.RoundTrip.{Meets, WithData, RoundTrip}
 use Rattle.demands.specs.Histories.{TypesKept, AfterEvents}
 use Rattle.demands.specs.Polled.{EveryItemPolled}
 use Rattle.demands.specs.Demand3.{Demand3}
@@ -47,6 +50,10 @@ Every Of = (v : View) → T (passes v) → Of v
 -- of every frame and buffer handed to any meter
 abbrev pub EveryFrame : (View → Meter → List ℕ → List ℕ → Type 0) → Type 0
 EveryFrame Of = Every (λ v. (m : Meter) (frame buffer : List ℕ) → Of v m frame buffer)
+
+-- of every request to a meter within limits, of the address that it names, with room for the reply
+abbrev pub EveryMeeting : (View → Meter → List ℕ → List ℕ → Type 0) → Type 0
+EveryMeeting Of = Every (λ v. (m : Meter) (request buffer : List ℕ) → Meets m request buffer → Of v m request buffer)
 
 -- of every reply to any request, whatever the ratios told and the item asked
 abbrev pub EveryReply : (View → List ℕ → List ℕ → Ratios → ℕ → Type 0) → Type 0
@@ -69,16 +76,18 @@ pub record Ground : Type 0 where
   pub numbered : Numbered
   pub crc : CrcFits
   pub damaged : IntactIsSealed
-  pub put : PutSeals
+  pub put : (before : List ℕ) (n : ℕ) (room : Bool) (after : List ℕ) → Put before n room after → PutSeals before n room after
   pub bytes : ByteSent
   pub words : ReadBack
   pub signed : SignedBack
-  pub directory : DirectoryRules
+  pub directory : (dir : List Item) → T (tested dir) → DirectoryRules dir
   pub own : OwnPasses
   pub tests : TestsBite
   pub kinds : KindsInOrder
   pub places : ThreeTables
-  pub runs : RunSends
+  pub runs :
+      (dir : List Item) (start words first count : ℕ) → T (ruled dir) → runIn dir start words ≡ Items first count →
+      RunSends dir words first count
   pub lines : TextBack
 
 -- STATEMENT: demand 2, its first half: every reply is, byte for byte, the one that paper 01 gives
@@ -100,8 +109,8 @@ pub record Readings : Type 0 where
   pub impossible : ThirteenWhen
   pub joins : (r : Ratios) (c : Count) (wrap : ℕ) → JoinsWhen r c wrap
   pub split : JoinSplit
-  pub with-data : Every WithData
-  pub readings : Every RoundTrip
+  pub with-data : EveryMeeting WithData
+  pub readings : EveryMeeting RoundTrip
   pub typed : Every TypesKept
   pub always : Every ReadsAlways
 

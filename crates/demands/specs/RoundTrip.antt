@@ -42,24 +42,27 @@ module _ (v : View) where
   abbrev pub replyTo : Meter → List ℕ → List ℕ → List ℕ
   replyTo m request b = replyIn (boardIn v m request b .handled .reply) (boardIn v m request b .buffer)
 
-  -- STATEMENT: the requests that the collector takes for a read that a meter of that own address answers with data are just those
-  -- that every such meter answers with data, a reply of function 0x03
-  pub record WithData : Type 0 where
-    pub same : (m : Meter) (request b : List ℕ) → Meets m request b → Asks v request ↔ (isRead (replyTo m request b) ≡ true)
+  -- ---- a meter within limits, of the address that a request names, with room for its reply
 
-  -- STATEMENT: told the meter's own ratios, the collector gives for every index just the reading of that item's quantity, and 12 past the
-  -- items; an error reply to such a request gives its code, whatever the index; a request that the meter does not answer with data
-  -- is 7, whatever the reply
-  pub record RoundTrip : Type 0 where
-    pub reads :
-        (m : Meter) (request b : List ℕ) (index : ℕ) → Typed m → Meets m request b → (a : Asks v request) → index < a .count →
-        collectorIn v request (replyTo m request b) (m .given .ratios) index ≡ Reading (meaningOf m (itemAt v a index .quantity))
-    pub past :
-        (m : Meter) (request b : List ℕ) (index : ℕ) → Meets m request b → (a : Asks v request) → a .count ≤ index →
-        ReplyGives v request (replyTo m request b) (m .given .ratios) index (refusedBy 12)
-    pub error :
-        (request : List ℕ) (r : Ratios) (index code : ℕ) → Asked v request r → 1 ≤ code → code ≤ 3 →
-        ReplyGives v request (errorBytes request code) r index (errorBy code)
-    pub other :
-        (m : Meter) (request b reply : List ℕ) (r : Ratios) (index : ℕ) → Meets m request b → ratiosOk r ≡ true →
-        isRead (replyTo m request b) ≡ false → ReplyGives v request reply r index (refusedBy 7)
+  module _ (m : Meter) (request b : List ℕ) where
+    -- STATEMENT: the requests that the collector takes for a read that a meter of that own address answers with data are just those
+    -- that every such meter answers with data, a reply of function 0x03
+    pub record WithData : Type 0 where
+      pub same : Asks v request ↔ (isRead (replyTo m request b) ≡ true)
+
+    -- STATEMENT: told the meter's own ratios, the collector gives for every index just the reading of that item's quantity, and 12 past
+    -- the items; an error reply to such a request gives its code, whatever the index; a request that the meter does not answer with
+    -- data is 7, whatever the reply
+    pub record RoundTrip : Type 0 where
+      pub reads :
+          (index : ℕ) → Typed m → (a : Asks v request) → index < a .count →
+          collectorIn v request (replyTo m request b) (m .given .ratios) index ≡ Reading (meaningOf m (itemAt v a index .quantity))
+      pub past :
+          (index : ℕ) → (a : Asks v request) → a .count ≤ index →
+          ReplyGives v request (replyTo m request b) (m .given .ratios) index (refusedBy 12)
+      pub error :
+          (r : Ratios) (index code : ℕ) → Asked v request r → 1 ≤ code → code ≤ 3 →
+          ReplyGives v request (errorBytes request code) r index (errorBy code)
+      pub other :
+          (reply : List ℕ) (r : Ratios) (index : ℕ) → ratiosOk r ≡ true → isRead (replyTo m request b) ≡ false →
+          ReplyGives v request reply r index (refusedBy 7)

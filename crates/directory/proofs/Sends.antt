@@ -113,9 +113,7 @@ whole dir start words first count r e = by-first (findIn dir start 0) refl
         let left = rest dir (ruled-ascends dir r) (ruled-narrow dir r) k words 0 start words first count (omega arith) (omega (arith, found-inside dir start k f)) (rw at (stands-first start k f)) begun in
         rw (← left .same) at left
 
-pub run-sends : RunSends
-run-sends =
-    record {
-      inside = λ dir start words first count r e. whole dir start words first count r e .inside;
-      sends = λ dir start words first count r e. rw (sub-zero, add-zero) at (whole dir start words first count r e .sends);
-    }
+pub run-sends : (dir : List Item) (start words first count : ℕ) → T (ruled dir) → runIn dir start words ≡ Items first count → RunSends dir words first count
+run-sends dir start words first count r e =
+    let run = whole dir start words first count r e in
+    record { inside = run .inside; sends = rw (sub-zero, add-zero) at (run .sends) }

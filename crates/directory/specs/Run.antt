@@ -4,7 +4,7 @@ use Prim.Native.Nat.{ℕ, zero, suc, _+_, _≤_}
 use mathlib.Core.List.{List, [], _∷_}
 use mathlib.Core.Bool.{Bool, cond}
 use lib.ListN.{length, getD, take, drop}
-use lib.Dec.{T, eqb}
+use lib.Dec.{eqb}
 use Rattle.refusal.specs.declared.ErrorCode.the-variants.{Address, Data}
 use Rattle.directory.specs.declared.Item.{Item}
 use Rattle.directory.specs.declared.Found.{Found}
@@ -12,7 +12,6 @@ use Rattle.directory.specs.declared.Found.the-variants.{At, Nothing}
 use Rattle.directory.specs.declared.Span.{Span}
 use Rattle.directory.specs.declared.Span.the-variants.{Items, Error}
 use Rattle.directory.specs.Item.{none, ends}
-use Rattle.directory.specs.Order.{ruled}
 
 -- the index, counted from i, of the first item that starts at an address
 unfoldable pub findIn : List Item → ℕ → ℕ → Found
@@ -57,10 +56,6 @@ wordsOf [] = 0
 wordsOf (it ∷ its) = it .words + wordsOf its
 
 -- STATEMENT: over any directory, the items of a run stand in it, and send just the words asked
-pub record RunSends : Type 0 where
-  pub inside :
-      (dir : List Item) (start words first count : ℕ) → T (ruled dir) → runIn dir start words ≡ Items first count →
-      first + count ≤ length dir
-  pub sends :
-      (dir : List Item) (start words first count : ℕ) → T (ruled dir) → runIn dir start words ≡ Items first count →
-      wordsOf (runItems dir first count) ≡ words
+pub record RunSends (dir : List Item) (words first count : ℕ) : Type 0 where
+  pub inside : first + count ≤ length dir
+  pub sends : wordsOf (runItems dir first count) ≡ words

@@ -85,8 +85,8 @@ legal-read v good {frame} {first} {count} e =
     record {
       long = t .0;
       most = ltb-false (v .most) (wordNumber frame) (n .1);
-      inside = run-sends .inside (v .seen) _ _ first count (passes-ruled v good) (t .2);
-      sends = run-sends .sends (v .seen) _ _ first count (passes-ruled v good) (t .2);
+      inside = run-sends (v .seen) _ _ first count (passes-ruled v good) (t .2) .inside;
+      sends = run-sends (v .seen) _ _ first count (passes-ruled v good) (t .2) .sends;
     }
 
 -- ---- over a table that is lent

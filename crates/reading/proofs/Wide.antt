@@ -126,8 +126,8 @@ pub wide-at : (dir : List Item) → T (tested dir) → (i : ℕ) → i < length 
 wide-at dir tests i h =
     let it = getD dir i none in
     let q = it .quantity in
-    let s = shape it (directory-rules .shapes dir tests i h) in
-    let m = and-eq-true-iff (leb 1 (widthOf q) && leb (widthOf q) (roomOf it)) _ .0 (directory-rules .meanings dir tests i h) in
+    let s = shape it (directory-rules dir tests .shapes i h) in
+    let m = and-eq-true-iff (leb 1 (widthOf q) && leb (widthOf q) (roomOf it)) _ .0 (directory-rules dir tests .meanings i h) in
     let n = and-eq-true-iff (leb 1 (widthOf q)) _ .0 (m .0) in
     let some = leb-true _ _ (n .0) in
     record {

@@ -208,7 +208,7 @@ module _ (dir : List Item) (tests : T (tested dir)) (i : ℕ) (inside : i < leng
 
   known : (1 ≤ widthOf (it .quantity)) × (widthOf (it .quantity) ≤ roomOf it)
   known =
-      let m = and-eq-true-iff (leb 1 (widthOf (it .quantity)) && leb (widthOf (it .quantity)) (roomOf it)) _ .0 (directory-rules .meanings dir tests i inside) in
+      let m = and-eq-true-iff (leb 1 (widthOf (it .quantity)) && leb (widthOf (it .quantity)) (roomOf it)) _ .0 (directory-rules dir tests .meanings i inside) in
       let t = and-eq-true-iff (leb 1 (widthOf (it .quantity))) (leb (widthOf (it .quantity)) (roomOf it)) .0 (m .0) in
       (leb-true _ _ (t .0), leb-true _ _ (t .1))
 
