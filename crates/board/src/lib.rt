@@ -28,7 +28,7 @@ pub use meter::samples::Sample;
 pub use ratio::Ratios;
 pub use refusal::Refusal;
 
-// What a meter does on a frame.
+// What a frame is answered with.
 pub enum Reply {
     Silent,
     // The length of the reply, which stands at the start of the buffer.

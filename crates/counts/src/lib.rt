@@ -24,11 +24,11 @@ impl Count {
     }
 }
 
-// Whole Wh or varh.
+// Whole Wh, or for a reactive energy varh: what is said of Wh here is meant of varh too.
 pub struct WattHours(pub u64);
 
 impl WattHours {
-    // The largest Low and High of an energy that a meter keeps, in Wh and in MWh.
+    // The largest Low, in Wh, and the largest High, in MWh, of an energy that a meter keeps.
     pub const LOW_TOP: u32 = 999_999;
 
     pub const HIGH_TOP: u32 = 65_535_999;

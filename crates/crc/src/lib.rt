@@ -52,7 +52,7 @@ pub fn ends_in(frame: &[u8], crc: u16) -> bool
     (frame[n - 2] == first) & (frame[n - 1] == second)
 }
 
-// Puts the CRC of the first n bytes behind them, low byte first. Without room for it, it changes nothing and answers false.
+// Puts the CRC of the first n bytes behind them, low byte first. If there is no room, it changes nothing and answers false.
 pub fn put(buffer: &mut [u8], n: usize) -> bool
     ensures { λ r. ⌜ Put (now (buffer .entry)) n r (now (buffer .exit)) ⌝ }
 {

@@ -1,6 +1,6 @@
 // A directory of registers (paper 01, "The directory"): what an item is, how it is found by its address, and which run of items a
-// read asks for. All this is for any flat table of items, of which a meter may show only the first ones. Paper 01's own table is the
-// crate `own`.
+// read asks for. It works on any flat table of items, of which only the first ones may be open to reads. Paper 01's own table is in
+// the crate `own`.
 pub mod quantity;
 
 ghost use mathlib.Core.Path.{_≡_};
@@ -38,7 +38,7 @@ impl Item {
 // A table is flat: four numbers are one item, in the order of the fields of `Item`.
 pub const NUMBERS_PER_ITEM: usize = 4;
 
-// How much of a table a meter lets be read. It is handed on with the table.
+// How much of a table may be read. It is handed on with the table.
 pub struct Reach {
     // How many of the table's items, from its first on.
     pub items: usize,

@@ -92,7 +92,7 @@ pub const WORD_IDENTIFIER: u16 = 2;
 
 pub const FIRST_SETUP: u16 = 3;
 
-// The first word of each setup group, as the whole number of its quantity.
+// The first word of each setup group; the others of the group follow it.
 pub const SETUP_2000: u16 = PLAIN + FIRST_SETUP;
 
 pub const SETUP_2200: u16 = SETUP_2000 + 16;

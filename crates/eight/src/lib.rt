@@ -65,8 +65,8 @@ fn eight_at(bytes: &[u8], i: usize) -> u64
     w
 }
 
-// The first 28 shifts. The upper 32 bits move. Each of the lower 32 stays where it is and is put two places up as well: that is
-// what 28 shifts come to, since t^30 is t^2 + 1.
+// The first 28 shifts. The upper 32 bits move down 28 places. Each of the lower 32 stays where it is and is put two places up as
+// well: for the remainder that is the same as 28 shifts, since t^30 is t^2 + 1.
 fn folded(x: u64) -> u64
     ensures { λ r. ⌜ r ≡ run folded x ⌝ }
 {
@@ -104,7 +104,7 @@ fn parity(x: u64) -> u64
 }
 
 // The CRC with the remainder that x has after 64 shifts and with the parity of p. Where the parity is still wrong, 0xC001 is
-// exclusive-ored in: that is t^15 + t + 1, which turns the parity and leaves the remainder.
+// exclusive-ored in: that is t^15 + t + 1, which changes the parity and leaves the remainder.
 fn settled(x: u64, p: u64) -> u16
     ensures { λ r. ⌜ r ≡ settled x p ⌝ }
 {

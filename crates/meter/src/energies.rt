@@ -12,7 +12,7 @@ use signed::Signed;
 pub struct Energy {
     // Whole Wh or varh.
     pub wh: WattHours,
-    // What is short of a whole one, in hundredths of a watt-second.
+    // What is left over, less than 1 Wh, in hundredths of a watt-second.
     pub remainder: u32,
 }
 

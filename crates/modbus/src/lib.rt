@@ -38,7 +38,7 @@ const BYTES_AT: usize = 6;
 // The bytes of a data reply before its words: address, function and byte number.
 pub const DATA_HEAD: usize = 3;
 
-// All bytes of a read.
+// The bytes of a read: address, function, start, word number and CRC.
 const READ_LENGTH: usize = 8;
 
 // The bytes of a write before its values.

@@ -1,5 +1,5 @@
-// Paper 01's own directory (paper 01, "The directory"): its items as one flat constant table, how much of it a meter lets be read,
-// and which run of its items a read asks for.
+// Paper 01's own directory (paper 01, "The directory"): its items as one flat constant table, how much of it may be read, and
+// which run of its items a read asks for.
 pub mod table;
 
 ghost use mathlib.Core.Path.{_≡_};

@@ -39,7 +39,7 @@ impl Ratios {
     }
 }
 
-// The hundredths of a whole W, var or VA.
+// A whole W, var or VA, in hundredths.
 pub const WHOLE_UNIT: u64 = 100;
 
 // From this T on, power registers count whole units, and powers may be larger.

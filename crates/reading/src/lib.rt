@@ -24,15 +24,15 @@ pub enum Quantity {
     Power(u64),
     // In whole W or var.
     SignedPower(Signed),
-    // The count in a register, the step in Wh at the ratios told, and the energy that these make.
+    // The count that a register shows, the step in Wh at the ratios told, and the energy that these make.
     Energy {
         count: Count,
         step: u32,
         wh: WattHours,
     },
-    // In Wh.
+    // In Wh or varh.
     Low(u32),
-    // In MWh.
+    // In MWh or Mvarh.
     High(u32),
     // How often the register has turned over to 0.
     Wrap(u16),
@@ -173,7 +173,7 @@ fn signed_word(value: u16) -> Signed
     signed_in(65_536, value as u64)
 }
 
-// Two's complement. `full` is how many values the words can have; one of their upper half stands for value - full.
+// Two's complement. `full` is how many values the words can have; each of the upper half of them stands for value - full.
 fn signed_in(full: u64, value: u64) -> Signed
     requires { ⌜ value ≤ full ⌝ }
     ensures { λ r. ⌜ r ≡ record { negative = leb (full / 2) value; magnitude = cond (leb (full / 2) value) (full - value) value } ⌝ }

@@ -1,5 +1,5 @@
 // Why a call is refused, and the error codes that a meter answers with (paper 01, "Refusal numbers" and "What the
-// meter does with a frame"). Every crate above gives its reasons by these names.
+// meter does with a frame"). Every call that refuses anything gives its reason by one of these names.
 ghost use mathlib.Core.Path.{_≡_};
 ghost use Rattle.refusal.specs.Numbers.{refusalNumber, errorNumber};
 

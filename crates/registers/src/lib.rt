@@ -58,6 +58,7 @@ fn current(m: Meter, which: u16) -> u32
     long_at(&currents, which)
 }
 
+// One figure of a list; 0 past its end.
 fn long_at(longs: &[u32], which: u16) -> u32
     ensures { λ r. ⌜ r ≡ getD (now (longs .entry)) which 0 ⌝ }
 {
@@ -166,6 +167,7 @@ fn energy_at(m: Meter, which: u16) -> WattHours
     }
 }
 
+// Hundredths are the thousandths cut toward zero: the magnitude is divided.
 fn factor(f: Factor, which: u16) -> u32
     requires { ⌜ factorOf f .magnitude ≤ 1000 ⌝ }
     ensures { λ r. ⌜ r ≡ getD (factorValues (factorOf f)) which 0 ⌝ }

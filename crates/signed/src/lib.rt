@@ -1,4 +1,4 @@
-// A signed number as a magnitude and whether it is negative. The crates above use this form; only the 3-phase sum adds
+// A signed number as a magnitude and whether it is negative. All other crates use this form; only the 3-phase sum adds
 // signed numbers.
 ghost use mathlib.Core.Path.{_≡_};
 ghost use Rattle.signed.specs.Signs.{signedOf, aboveOf, belowOf};
@@ -10,7 +10,7 @@ pub struct Signed {
 }
 
 impl Signed {
-    // A number taken apart. The magnitude of a negative one is its complement plus 1, which fits for the least i64 too.
+    // A number in this form. The magnitude of a negative one is its complement plus 1, which fits for the least i64 too.
     pub fn of(number: i64) -> Signed
         ensures { λ r. ⌜ r ≡ signedOf number ⌝ }
     {

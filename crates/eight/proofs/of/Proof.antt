@@ -1,4 +1,4 @@
--- `of` is the written CRC: that of the whole words goes on over the rest to that of all bytes.
+-- `of` is the written CRC: that of the whole eights goes on over the rest to that of all bytes.
 use mathlib.Core.Path.{_≡_, _∙_}
 use mathlib.Core.List.{List}
 use Prim.Native.Nat.{ℕ, _-_}

@@ -18,7 +18,7 @@ Inv-loop bytes last x₀ p₀ i₀ x p i =
 abbrev μ-loop : tie.MeasureT-loop
 μ-loop bytes last x₀ p₀ i₀ x p i = length bytes - i
 
--- what a turn does, and what is left when the words are done
+-- what a turn does, and what is left when the whole eights are done
 module _ (bs : List ℕ) where
   next : (i x p f s w : ℕ) → i + 8 ≤ length bs → x < 2 ^ 64 → w < 2 ^ 64 → f ≡ run folded x → s ≡ run spread f → w ≡ number (take 8 (drop i bs))
       → crcFrom (settled (bitXor s w) (bitXor p w)) (drop (i + 8) bs) ≡ crcFrom (settled x p) (drop i bs)
