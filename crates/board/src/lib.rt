@@ -9,60 +9,76 @@ ghost use Rattle.modbus.specs.Frame.{silence, isWrite};
 ghost use Rattle.meter.specs.Meters.{meterOk};
 ghost use Rattle.own.specs.Own.{own};
 ghost use Rattle.board.specs.Board.{Allowed, obeyedIn, boardOf};
-use meter::Meter;
 use refusal::ErrorCode;
-use refusal::Refusal;
 use store::Verdict;
 
+// All that a board's program needs is here: `handle`, and the meter with the types of its record, its samples and its answers.
+pub use counts::WattHours;
+pub use meter::Answer;
+pub use meter::Answered;
+pub use meter::Meter;
+pub use meter::energies::Counters;
+pub use meter::energies::Energies;
+pub use meter::energies::Energy;
+pub use meter::given::Given;
+pub use meter::groups::Setup;
+pub use meter::samples::Factor;
+pub use meter::samples::Powers;
+pub use meter::samples::Sample;
+pub use ratio::Ratios;
+pub use refusal::Refusal;
+
+// What a frame is answered with.
 pub enum Reply {
     Silent,
-    // So many bytes at the start of the buffer.
+    // The length of the reply, which stands at the start of the buffer.
     Sent(usize),
     Refused(Refusal),
 }
 
-// A reply, beside the meter that follows from the frame.
+// A reply, and the meter after the frame.
 pub struct Handled {
     pub reply: Reply,
     pub meter: Meter,
 }
 
-// What a meter does with a frame. A reply is put at the start of the buffer, and the rest of it stays.
+// What a meter does with a frame. A reply is put at the start of the buffer, which needs 256 bytes; the bytes behind the reply
+// stay as they were.
 pub fn handle(meter: Meter, frame: &[u8], buffer: &mut [u8]) -> Handled
     ensures { λ r. ⌜ Allowed (boardOf meter (now (frame .entry)) (now (buffer .entry))) r (now (buffer .exit)) ⌝ }
 {
     if !meter.within() {
-        return with(meter, Reply::Refused(Refusal::MeterOutOfLimits));
+        return hand_back(meter, Reply::Refused(Refusal::MeterOutOfLimits));
     }
     if buffer.len() < modbus::FRAME_MOST {
-        return with(meter, Reply::Refused(Refusal::BufferShort));
+        return hand_back(meter, Reply::Refused(Refusal::BufferShort));
     }
     if modbus::silence(meter.given.address, frame) {
-        return with(meter, Reply::Silent);
+        return hand_back(meter, Reply::Silent);
     }
     obey(meter, frame, buffer)
 }
 
-fn with(meter: Meter, reply: Reply) -> Handled
+fn hand_back(meter: Meter, reply: Reply) -> Handled
     ensures { λ r. ⌜ r ≡ record { reply = reply; meter = meter } ⌝ }
 {
     Handled { reply, meter }
 }
 
-// The function of a frame that the meter heeds. Only a write does anything when it is for all meters.
+// Carries out a frame that the meter heeds. Of the frames for all meters only a write has any effect.
 fn obey(meter: Meter, frame: &[u8], buffer: &mut [u8]) -> Handled
     requires { ⌜ meterOk meter ≡ true ⌝ }
     requires { ⌜ silence (meter .given .address) (now frame) ≡ false ⌝ }
     requires { ⌜ 256 ≤ length (now buffer) ⌝ }
     ensures { λ r. ⌜ Allowed (obeyedIn own meter (now (frame .entry)) (now (buffer .entry))) r (now (buffer .exit)) ⌝ }
 {
-    if frame[1] == modbus::WRITE {
+    if frame[1] == modbus::WRITE_MULTIPLE_REGISTERS {
         return write(meter, frame, buffer);
     }
     if frame[0] == modbus::BROADCAST {
-        return with(meter, Reply::Silent);
+        return hand_back(meter, Reply::Silent);
     }
-    let length = if frame[1] == modbus::READ {
+    let length = if frame[1] == modbus::READ_HOLDING_REGISTERS {
         reads::read(meter, frame, buffer)
     } else {
         modbus::put_error(frame, ErrorCode::Function, buffer)
@@ -73,6 +89,7 @@ fn obey(meter: Meter, frame: &[u8], buffer: &mut [u8]) -> Handled
     }
 }
 
+// Stores a write, and answers it unless it is for all meters.
 fn write(meter: Meter, frame: &[u8], buffer: &mut [u8]) -> Handled
     requires { ⌜ silence (meter .given .address) (now frame) ≡ false ⌝ }
     requires { ⌜ isWrite (now frame) ≡ true ⌝ }
@@ -83,7 +100,7 @@ fn write(meter: Meter, frame: &[u8], buffer: &mut [u8]) -> Handled
     let next = written.meter;
     let address = frame[0];
     if address == modbus::BROADCAST {
-        return with(next, Reply::Silent);
+        return hand_back(next, Reply::Silent);
     }
     let verdict = written.verdict;
     let length = match verdict {

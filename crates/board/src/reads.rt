@@ -27,28 +27,28 @@ pub(crate) fn read(m: Meter, frame: &[u8], buffer: &mut [u8]) -> usize
     ensures { λ r. ⌜ r ≡ length (readReply own (shownOf m) (now (frame .entry))) ⌝ }
     ensures { λ _. ⌜ now (buffer .exit) ≡ sets (now (buffer .entry)) 0 (readReply own (shownOf m) (now (frame .entry))) ⌝ }
 {
-    along(&table::TABLE, own::reach(), m, frame, buffer)
+    with_table(&table::TABLE, own::reach(), m, frame, buffer)
 }
 
-// The same with the table lent: to name the constant is to lay it out anew.
-fn along(t: &[u16], reach: Reach, m: Meter, frame: &[u8], buffer: &mut [u8]) -> usize
-    requires { ⌜ Lent (now t) reach ⌝ }
+// The same with the table lent: each use of the constant's name copies the whole table onto the stack.
+fn with_table(table: &[u16], reach: Reach, m: Meter, frame: &[u8], buffer: &mut [u8]) -> usize
+    requires { ⌜ Lent (now table) reach ⌝ }
     requires { ⌜ meterOk m ≡ true ⌝ }
     requires { ⌜ (2 ≤ length (now frame)) × (functionOf (now frame) < 0x80) ⌝ }
     requires { ⌜ 256 ≤ length (now buffer) ⌝ }
-    ensures { λ r. ⌜ r ≡ length (readReply (viewOf (now (t .entry)) reach) (shownOf m) (now (frame .entry))) ⌝ }
-    ensures { λ _. ⌜ now (buffer .exit) ≡ sets (now (buffer .entry)) 0 (readReply (viewOf (now (t .entry)) reach) (shownOf m) (now (frame .entry))) ⌝ }
+    ensures { λ r. ⌜ r ≡ length (readReply (viewOf (now (table .entry)) reach) (shownOf m) (now (frame .entry))) ⌝ }
+    ensures { λ _. ⌜ now (buffer .exit) ≡ sets (now (buffer .entry)) 0 (readReply (viewOf (now (table .entry)) reach) (shownOf m) (now (frame .entry))) ⌝ }
 {
-    match modbus::read_in(t, reach, frame) {
+    match modbus::read_in(table, reach, frame) {
         Span::Error(code) => modbus::put_error(frame, code, buffer),
         Span::Items { first, count } => {
-            let asked = directory::part(t, first, count);
+            let asked = directory::part(table, first, count);
             put_data(asked, m, frame, buffer)
         }
     }
 }
 
-// The data of a read that asks for the items that a part of the table holds.
+// Puts the data reply to a read of the items `asked`, which are a part of the table, and answers its length.
 fn put_data(asked: &[u16], m: Meter, frame: &[u8], buffer: &mut [u8]) -> usize
     requires { ⌜ T (every narrow (items (now asked))) ⌝ }
     requires { ⌜ meterOk m ≡ true ⌝ }
@@ -59,13 +59,13 @@ fn put_data(asked: &[u16], m: Meter, frame: &[u8], buffer: &mut [u8]) -> usize
 {
     buffer[0] = frame[0];
     buffer[1] = frame[1];
-    buffer[2] = (2 * words::word_at(frame, modbus::WORD_NUMBER)) as u8;
+    buffer[2] = (2 * words::word_at(frame, modbus::WORDS_AT)) as u8;
     let end = put_items(asked, m, buffer);
     crc::put(buffer, end);
     end + 2
 }
 
-// The words of items, behind the first three bytes; answers where they end.
+// Puts the words of the items behind the head of a data reply, and answers where they end.
 fn put_items(asked: &[u16], m: Meter, buffer: &mut [u8]) -> usize
     requires { ⌜ T (every narrow (items (now asked))) ⌝ }
     requires { ⌜ meterOk m ≡ true ⌝ }
@@ -73,7 +73,7 @@ fn put_items(asked: &[u16], m: Meter, buffer: &mut [u8]) -> usize
     ensures { λ r. ⌜ r ≡ 3 + 2 * wordsOf (items (now (asked .entry))) ⌝ }
     ensures { λ _. ⌜ now (buffer .exit) ≡ sets (now (buffer .entry)) 3 (itemsSent (shownOf m) (items (now (asked .entry)))) ⌝ }
 {
-    let count = asked.len() / directory::NUMBERS;
+    let count = asked.len() / directory::NUMBERS_PER_ITEM;
     let mut at = modbus::DATA_HEAD;
     let mut i: usize = 0;
     while i < count {

@@ -1,5 +1,5 @@
-// The collector: a request and the reply to it in, one reading out (paper 01, "Collector"). It goes by the meter's directory
-// and by what it was told of the ratios, and knows nothing of the meter.
+// The collector: a request and the reply to it in, one reading out (paper 01, "Collector"). All that it knows of the meter is its
+// directory and the ratios that it is told.
 ghost use mathlib.Core.Path.{_≡_};
 ghost use Prim.Native.Nat.{_+_, _*_, _≤_};
 ghost use lib.Dec.{T};
@@ -15,7 +15,7 @@ use directory::Reach;
 use directory::Span;
 use own::table;
 
-// The whole face stands here: beside `read` its answers, and the joins with their refusals.
+// All that a collector's program needs is here: `read`, the joins, and the types of what they take and give.
 pub use counts::Count;
 pub use counts::Joined;
 pub use counts::WattHours;
@@ -29,12 +29,12 @@ pub use refusal::Refusal;
 pub use signed::Signed;
 
 // The function of an error reply to a read.
-const READ_ERROR: u8 = modbus::READ + modbus::ERROR;
+const READ_ERROR: u8 = modbus::READ_HOLDING_REGISTERS + modbus::ERROR_FLAG;
 
-// A data reply without data, and the length of an error reply.
+// The bytes of an error reply, and of a data reply without its data.
 const REPLY_LEAST: usize = 5;
 
-// What one item of a reply says, told the ratios of the meter asked.
+// What one item of a reply reads as. The ratios are those of the meter that was asked; the index counts the items from 0.
 pub fn read(request: &[u8], reply: &[u8], ratios: Ratios, index: usize) -> Answer
     ensures { λ r. ⌜ r ≡ collectorOf (now (request .entry)) (now (reply .entry)) ratios index ⌝ }
 {
@@ -44,7 +44,7 @@ pub fn read(request: &[u8], reply: &[u8], ratios: Ratios, index: usize) -> Answe
     if !heard(request) {
         return Answer::Refused(Refusal::NotARead);
     }
-    along(
+    with_table(
         &table::TABLE,
         own::reach(),
         request,
@@ -54,34 +54,41 @@ pub fn read(request: &[u8], reply: &[u8], ratios: Ratios, index: usize) -> Answe
     )
 }
 
-// Whether the meter that a request names hears a read in it.
+// Whether a request is a read that the meter it is addressed to would heed.
 fn heard(request: &[u8]) -> bool
     ensures { λ r. ⌜ r ≡ heard (now (request .entry)) ⌝ }
 {
     if request.len() < modbus::FRAME_LEAST {
         return false;
     }
-    let own = request[0];
-    if (own == modbus::BROADCAST) | (request[1] != modbus::READ) {
+    let address = request[0];
+    if (address == modbus::BROADCAST) | (request[1] != modbus::READ_HOLDING_REGISTERS) {
         return false;
     }
-    !modbus::silence(own, request)
+    !modbus::silence(address, request)
 }
 
-// The rest with the table lent: to name the constant is to lay it out anew.
-fn along(t: &[u16], reach: Reach, request: &[u8], reply: &[u8], tenths: u32, index: usize) -> Answer
-    requires { ⌜ Lent (now t) reach ⌝ }
-    ensures { λ r. ⌜ r ≡ onItems (viewOf (now (t .entry)) reach) (readIn (viewOf (now (t .entry)) reach) (now (request .entry))) (λ its. replyOf tenths (now (request .entry)) (now (reply .entry)) its index) ⌝ }
+// The rest of `read`, with the table lent: each use of the constant's name copies the whole table onto the stack.
+fn with_table(
+    table: &[u16],
+    reach: Reach,
+    request: &[u8],
+    reply: &[u8],
+    tenths: u32,
+    index: usize,
+) -> Answer
+    requires { ⌜ Lent (now table) reach ⌝ }
+    ensures { λ r. ⌜ r ≡ onItems (viewOf (now (table .entry)) reach) (readIn (viewOf (now (table .entry)) reach) (now (request .entry))) (λ its. replyOf tenths (now (request .entry)) (now (reply .entry)) its index) ⌝ }
 {
-    let span = modbus::read_in(t, reach, request);
+    let span = modbus::read_in(table, reach, request);
     let Span::Items { first, count } = span else {
         return Answer::Refused(Refusal::NotARead);
     };
-    let asked = directory::part(t, first, count);
+    let asked = directory::part(table, first, count);
     replied(asked, request, reply, tenths, index)
 }
 
-// What a reply says to a read of the items that a part of the table holds.
+// What a reply says, to a read of the items `asked`, which are a part of the table.
 fn replied(asked: &[u16], request: &[u8], reply: &[u8], tenths: u32, index: usize) -> Answer
     requires { ⌜ T (every narrow (items (now asked))) ⌝ }
     requires { ⌜ (length (now request) ≡ 8) × (wordsOf (items (now asked)) ≡ wordNumber (now request)) ⌝ }
@@ -95,14 +102,16 @@ fn replied(asked: &[u16], request: &[u8], reply: &[u8], tenths: u32, index: usiz
         return Answer::Refused(Refusal::ReplyCrc);
     }
     let function = reply[1];
-    if (reply[0] != request[0]) | ((function != modbus::READ) & (function != READ_ERROR)) {
+    if (reply[0] != request[0])
+        | ((function != modbus::READ_HOLDING_REGISTERS) & (function != READ_ERROR))
+    {
         return Answer::Refused(Refusal::ReplyForeign);
     }
     if function == READ_ERROR {
         return error(reply);
     }
     let bytes = reply[2] as usize;
-    if (bytes != 2 * words::word_at(request, modbus::WORD_NUMBER) as usize)
+    if (bytes != 2 * words::word_at(request, modbus::WORDS_AT) as usize)
         | (n != REPLY_LEAST + bytes)
     {
         return Answer::Refused(Refusal::ReplyMisfit);
@@ -110,6 +119,7 @@ fn replied(asked: &[u16], request: &[u8], reply: &[u8], tenths: u32, index: usiz
     item(asked, reply, tenths, index)
 }
 
+// The error code of an error reply.
 fn error(reply: &[u8]) -> Answer
     requires { ⌜ 5 ≤ length (now reply) ⌝ }
     ensures { λ r. ⌜ r ≡ errorOf (now (reply .entry)) ⌝ }
@@ -126,12 +136,13 @@ fn error(reply: &[u8]) -> Answer
     }
 }
 
+// The reading of one item, from a data reply that fits the request.
 fn item(asked: &[u16], reply: &[u8], tenths: u32, index: usize) -> Answer
     requires { ⌜ T (every narrow (items (now asked))) ⌝ }
     requires { ⌜ 3 + 2 * wordsOf (items (now asked)) ≤ length (now reply) ⌝ }
     ensures { λ r. ⌜ r ≡ itemOf tenths (items (now (asked .entry))) (now (reply .entry)) index ⌝ }
 {
-    if asked.len() / directory::NUMBERS <= index {
+    if asked.len() / directory::NUMBERS_PER_ITEM <= index {
         return Answer::Refused(Refusal::IndexPastItems);
     }
     let at = place(asked, index);
@@ -144,7 +155,7 @@ fn item(asked: &[u16], reply: &[u8], tenths: u32, index: usize) -> Answer
     reading::word(it.quantity, it.is_b(), value)
 }
 
-// Where the words of the item stand that comes after `index` others.
+// Where the words of an item start in a data reply: behind those of the items before it.
 fn place(asked: &[u16], index: usize) -> usize
     requires { ⌜ T (every narrow (items (now asked))) ⌝ }
     requires { ⌜ index ≤ length (items (now asked)) ⌝ }

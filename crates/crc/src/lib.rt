@@ -5,7 +5,7 @@ ghost use Prim.Native.Nat.{_/_, _%_};
 ghost use lib.Bits.{bitXor};
 ghost use Rattle.crc.specs.Crc.{shift, shifts, crcFrom, crcOf, endsIn, intact, Put};
 
-// The CRC of no bytes.
+// The value that a CRC starts from.
 pub const START: u16 = 0xFFFF;
 
 // The CRC of all bytes of a slice.
@@ -15,7 +15,7 @@ pub fn of(bytes: &[u8]) -> u16
     continued(START, bytes)
 }
 
-// What the CRC of bytes comes to when these follow: for a caller that took the first ones in another way.
+// A CRC carried on over more bytes: for a caller that has the CRC of the bytes before them.
 pub fn continued(crc: u16, bytes: &[u8]) -> u16
     ensures { λ r. ⌜ r ≡ crcFrom crc (now (bytes .entry)) ⌝ }
 {
@@ -39,7 +39,7 @@ pub fn intact(frame: &[u8]) -> bool
     ends_in(frame, of(&frame[..end]))
 }
 
-// Whether a frame's last two bytes are a CRC that is known, low byte first.
+// Whether a frame's last two bytes are this CRC, low byte first.
 pub fn ends_in(frame: &[u8], crc: u16) -> bool
     ensures { λ r. ⌜ r ≡ endsIn (now (frame .entry)) crc ⌝ }
 {
@@ -47,42 +47,42 @@ pub fn ends_in(frame: &[u8], crc: u16) -> bool
     if n < 2 {
         return false;
     }
-    let first = low(crc);
-    let second = high(crc);
+    let first = low_byte(crc);
+    let second = high_byte(crc);
     (frame[n - 2] == first) & (frame[n - 1] == second)
 }
 
-// Puts the CRC of the first n bytes behind them, if there is room, and says whether there was.
-pub fn put(buf: &mut [u8], n: usize) -> bool
-    ensures { λ r. ⌜ Put (now (buf .entry)) n r (now (buf .exit)) ⌝ }
+// Puts the CRC of the first n bytes behind them, low byte first. If there is no room, it changes nothing and answers false.
+pub fn put(buffer: &mut [u8], n: usize) -> bool
+    ensures { λ r. ⌜ Put (now (buffer .entry)) n r (now (buffer .exit)) ⌝ }
 {
-    if buf.len() < 2 {
+    if buffer.len() < 2 {
         return false;
     }
-    if buf.len() - 2 < n {
+    if buffer.len() - 2 < n {
         return false;
     }
-    let crc = of(&buf[..n]);
-    let first = low(crc);
-    let second = high(crc);
-    buf[n] = first;
-    buf[n + 1] = second;
+    let crc = of(&buffer[..n]);
+    let first = low_byte(crc);
+    let second = high_byte(crc);
+    buffer[n] = first;
+    buffer[n + 1] = second;
     true
 }
 
-fn low(crc: u16) -> u8
+fn low_byte(crc: u16) -> u8
     ensures { λ r. ⌜ r ≡ crc % 256 ⌝ }
 {
     (crc & 0xFF) as u8
 }
 
-fn high(crc: u16) -> u8
+fn high_byte(crc: u16) -> u8
     ensures { λ r. ⌜ r ≡ crc / 256 ⌝ }
 {
     (crc >> 8) as u8
 }
 
-// A byte exclusive-ored into the low half, then eight right shifts.
+// A CRC carried on over one byte: exclusive-ored into the low half, then eight right shifts.
 fn with_byte(crc: u16, b: u8) -> u16
     ensures { λ r. ⌜ r ≡ shifts 8 (bitXor crc b) ⌝ }
 {
@@ -95,7 +95,7 @@ fn with_byte(crc: u16, b: u8) -> u16
     c
 }
 
-// One right shift. The branch is the written rule's own; the compiler turns the loop above into table look-ups.
+// One right shift, with the branch that the written rule has. From this form the compiler makes a table look-up of the loop above.
 fn shift(c: u16) -> u16
     ensures { λ r. ⌜ r ≡ shift c ⌝ }
 {

@@ -1,5 +1,6 @@
-// A directory of registers (paper 01, "The directory"): what an item is, and along any flat table of items, as far as it is to be
-// seen, an item found by its address and the run of items that a read asks for. Paper 01's own table is the crate `own`.
+// A directory of registers (paper 01, "The directory"): what an item is, how it is found by its address, and which run of items a
+// read asks for. It works on any flat table of items, of which only the first ones may be open to reads. Paper 01's own table is in
+// the crate `own`.
 pub mod quantity;
 
 ghost use mathlib.Core.Path.{_≡_};
@@ -12,50 +13,58 @@ ghost use Rattle.directory.specs.Run.{findIn, runIn};
 use refusal::ErrorCode;
 
 pub struct Item {
+    // Its first address.
     pub start: u16,
+    // How many addresses it takes.
     pub fills: u16,
+    // How many words it is sent in, 1 or 2.
     pub words: u16,
+    // What it shows, as the module `quantity` numbers it.
     pub quantity: u16,
 }
 
-// From here on addresses count words. Before, they count bytes, and what fills one is a B.
-const WORD_BLOCKS: u16 = 0x1000;
+// From here on addresses count words. Below, they count bytes, and an item that fills one is a B.
+const WORD_BLOCKS_FROM: u16 = 0x1000;
 
 impl Item {
+    // Whether it is a B: one byte, sent as a word whose upper byte is 0.
     pub fn is_b(self) -> bool
         ensures { λ r. ⌜ r ≡ isB self ⌝ }
     {
-        (self.start < WORD_BLOCKS) & (self.fills == 1)
+        (self.start < WORD_BLOCKS_FROM) & (self.fills == 1)
     }
 }
 
-// The numbers of a table that are one item.
-pub const NUMBERS: usize = 4;
+// A table is flat: four numbers are one item, in the order of the fields of `Item`.
+pub const NUMBERS_PER_ITEM: usize = 4;
 
-// How far a table is seen, lent beside it: so many of its first items, and so many words in one read.
+// How much of a table may be read. It is handed on with the table.
 pub struct Reach {
+    // How many of the table's items, from its first on.
     pub items: usize,
+    // The most words of one read.
     pub most: u16,
 }
 
+// The index of an item, or that there is none.
 pub enum Found {
     At(usize),
     Nothing,
 }
 
-// The items that a read asks for, from the index `first` on, or what is wrong with it.
+// The items that a read asks for, `count` of them from the index `first` on, or what is wrong with the read.
 pub enum Span {
     Items { first: usize, count: usize },
     Error(ErrorCode),
 }
 
-// The run for `words` words from `start`. An item that starts where the one before ends can only be the table's next,
-// so only the first is looked for.
-pub fn run_in(t: &[u16], n: usize, start: u16, words: u16) -> Span
-    requires { ⌜ (4 * n ≤ length (now t)) × T (ruled (take n (items (now t)))) ⌝ }
-    ensures { λ r. ⌜ r ≡ runIn (take n (items (now (t .entry)))) start words ⌝ }
+// The run of items for `words` words from the address `start`, among the first `seen` items of a table. Only the first of the run
+// is searched for: the table ascends, so the item that starts where another ends can only be the next one.
+pub fn run_in(table: &[u16], seen: usize, start: u16, words: u16) -> Span
+    requires { ⌜ (4 * seen ≤ length (now table)) × T (ruled (take seen (items (now table)))) ⌝ }
+    ensures { λ r. ⌜ r ≡ runIn (take seen (items (now (table .entry)))) start words ⌝ }
 {
-    let found = find_in(t, n, start);
+    let found = find_in(table, seen, start);
     let Found::At(first) = found else {
         return Span::Error(ErrorCode::Address);
     };
@@ -63,10 +72,10 @@ pub fn run_in(t: &[u16], n: usize, start: u16, words: u16) -> Span
     let mut next = start as u32;
     let mut due = words;
     while 0 < due {
-        if n <= i {
+        if seen <= i {
             return Span::Error(ErrorCode::Address);
         }
-        let it = item_at(t, i);
+        let it = item_at(table, i);
         if it.start as u32 != next {
             return Span::Error(ErrorCode::Address);
         }
@@ -83,16 +92,16 @@ pub fn run_in(t: &[u16], n: usize, start: u16, words: u16) -> Span
     }
 }
 
-// The index of the item that starts at an address. The table ascends, so what is left of it is halved at each look.
-fn find_in(t: &[u16], n: usize, address: u16) -> Found
-    requires { ⌜ (4 * n ≤ length (now t)) × T (ruled (take n (items (now t)))) ⌝ }
-    ensures { λ r. ⌜ r ≡ findIn (take n (items (now (t .entry)))) address 0 ⌝ }
+// The index of the item that starts at an address. The table ascends, so a search by halves finds it.
+fn find_in(table: &[u16], seen: usize, address: u16) -> Found
+    requires { ⌜ (4 * seen ≤ length (now table)) × T (ruled (take seen (items (now table)))) ⌝ }
+    ensures { λ r. ⌜ r ≡ findIn (take seen (items (now (table .entry)))) address 0 ⌝ }
 {
     let mut low: usize = 0;
-    let mut high: usize = n;
+    let mut high: usize = seen;
     while low < high {
         let middle = low + (high - low) / 2;
-        let it = item_at(t, middle);
+        let it = item_at(table, middle);
         if it.start == address {
             return Found::At(middle);
         }
@@ -106,25 +115,25 @@ fn find_in(t: &[u16], n: usize, address: u16) -> Found
 }
 
 // The part of a table that holds a run of its items.
-pub fn part(t: &[u16], first: usize, count: usize) -> &[u16]
-    requires { ⌜ 4 * (first + count) ≤ length (now t) ⌝ }
-    ensures { λ r. ⌜ now r ≡ take (4 * count) (drop (4 * first) (now (t .entry))) ⌝ }
+pub fn part(table: &[u16], first: usize, count: usize) -> &[u16]
+    requires { ⌜ 4 * (first + count) ≤ length (now table) ⌝ }
+    ensures { λ r. ⌜ now r ≡ take (4 * count) (drop (4 * first) (now (table .entry))) ⌝ }
 {
-    let from = NUMBERS * first;
-    let to = from + NUMBERS * count;
-    &t[from..to]
+    let from = NUMBERS_PER_ITEM * first;
+    let to = from + NUMBERS_PER_ITEM * count;
+    &table[from..to]
 }
 
-// The item of index i.
-pub fn item_at(t: &[u16], i: usize) -> Item
-    requires { ⌜ 4 * i + 4 ≤ length (now t) ⌝ }
-    ensures { λ r. ⌜ r ≡ getD (items (now (t .entry))) i none ⌝ }
+// The item with index i.
+pub fn item_at(table: &[u16], i: usize) -> Item
+    requires { ⌜ 4 * i + 4 ≤ length (now table) ⌝ }
+    ensures { λ r. ⌜ r ≡ getD (items (now (table .entry))) i none ⌝ }
 {
-    let at = NUMBERS * i;
+    let at = NUMBERS_PER_ITEM * i;
     Item {
-        start: t[at],
-        fills: t[at + 1],
-        words: t[at + 2],
-        quantity: t[at + 3],
+        start: table[at],
+        fills: table[at + 1],
+        words: table[at + 2],
+        quantity: table[at + 3],
     }
 }

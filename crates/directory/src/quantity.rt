@@ -1,5 +1,5 @@
 // What an item shows, as a number: 64 x kind + which. The kinds are numbered from 1 in the order of paper 01's list of
-// readings; each constant of a kind is the first of its 64 numbers.
+// readings. Each kind has 64 numbers, and its constant is the first of these.
 pub const VOLTAGE: u16 = 64;
 
 pub const CURRENT: u16 = 64 * 2;
@@ -32,7 +32,7 @@ pub const SEQUENCE: u16 = 64 * 15;
 
 pub const PLAIN: u16 = 64 * 16;
 
-// Voltages of the phases, and chained; currents of the phases, and of the neutral.
+// Which voltage: of a phase, or chained. Which current: of a phase, or N, of the neutral.
 pub const L1: u16 = 0;
 
 pub const L2: u16 = 1;
@@ -47,7 +47,7 @@ pub const L31: u16 = 5;
 
 pub const N: u16 = 3;
 
-// Powers, their signs and their signed words: 3-phase, then phase by phase. Apparent power has no sign.
+// Which power, sign or signed power: 3-phase, then phase by phase. S, the apparent power, has no sign.
 pub const P: u16 = 0;
 
 pub const Q: u16 = 1;
@@ -65,10 +65,11 @@ pub const Q2: u16 = 6;
 pub const Q3: u16 = 7;
 
 pub const S: u16 = 8;
+
 // S in whole VA, whatever the ratio.
 pub const WHOLE_S: u16 = 9;
 
-// Energies, in the paper's order: +Ea, -Ea, +Er, -Er.
+// Which energy, in the paper's order: +Ea, -Ea, +Er, -Er.
 pub const POS_EA: u16 = 0;
 
 pub const NEG_EA: u16 = 1;
@@ -77,12 +78,12 @@ pub const POS_ER: u16 = 2;
 
 pub const NEG_ER: u16 = 3;
 
-// Power factor.
+// Which power factor, by its unit.
 pub const HUNDREDTHS: u16 = 0;
 
 pub const THOUSANDTHS: u16 = 1;
 
-// Plain words: zeros, the identifiers 0x11 and 0x1114, and the setup groups.
+// Which plain word: zeros, the identifiers 0x11 and 0x1114, and from FIRST_SETUP on the setup words of both groups.
 pub const ZEROS: u16 = 0;
 
 pub const BYTE_IDENTIFIER: u16 = 1;
@@ -91,6 +92,7 @@ pub const WORD_IDENTIFIER: u16 = 2;
 
 pub const FIRST_SETUP: u16 = 3;
 
+// The first word of each setup group; the others of the group follow it.
 pub const SETUP_2000: u16 = PLAIN + FIRST_SETUP;
 
 pub const SETUP_2200: u16 = SETUP_2000 + 16;

@@ -1,18 +1,20 @@
-// The CRC eight bytes at once, for the host's side alone: the collector's check of a reply. The meter goes by `crc`, in the form that
-// paper 01 names. A word of eight bytes takes 64 right shifts, and these are made by a few shifts, masks and exclusive-ors of u64.
-// The polynomial is (t + 1)(t^15 + t + 1), so a CRC is known by its remainder by t^15 + t + 1, for which t^30 is t^2 + 1
-// and t^60 is t^4 + 1, and by its parity. Over a whole frame that is a third of what the shifts byte by byte cost.
+// The CRC eight bytes at once, for the host's side alone: the collector's check of a reply. The meter uses `crc`, in the form that
+// paper 01 names.
+//
+// Eight bytes take 64 right shifts. Here a few shifts and exclusive-ors of u64 do the work of all 64, at a third of the cost over
+// a whole frame. This rests on polynomials whose coefficients are bits. The CRC's polynomial is (t + 1)(t^15 + t + 1), so two
+// things fix a CRC: its parity, and its remainder by t^15 + t + 1. For that remainder t^30 is t^2 + 1, and t^60 is t^4 + 1.
 ghost use mathlib.Core.Path.{_≡_};
 ghost use Prim.Native.Nat.{_+_, _*_, _/_, _≤_};
 ghost use lib.ListN.{length, take, drop};
 ghost use Rattle.crc.specs.Crc.{crcFrom, crcOf, intact};
 ghost use Rattle.eight.specs.AtOnce.{run, folded, spread, narrowed, parity, settled, number};
 
-// The CRC of all bytes of a slice: the whole words, then byte by byte.
+// The CRC of all bytes of a slice: eight at once while there are eight, then byte by byte.
 pub fn of(bytes: &[u8]) -> u16
     ensures { λ r. ⌜ r ≡ crcOf (now (bytes .entry)) ⌝ }
 {
-    let crc = words(bytes);
+    let crc = whole_eights(bytes);
     let end = bytes.len() / 8 * 8;
     crc::continued(crc, &bytes[end..])
 }
@@ -28,8 +30,9 @@ pub fn intact(frame: &[u8]) -> bool
     crc::ends_in(frame, of(&frame[..end]))
 }
 
-// The CRC of the whole words of a slice: its remainder is kept in x and its parity in p. 64 shifts of 0x0F14 are 0xFFFF.
-fn words(bytes: &[u8]) -> u16
+// The CRC of the bytes that make whole eights. Its remainder is kept in x, 64 shifts behind, and its parity in p. So x starts from
+// 0x0F14, which 64 shifts turn into 0xFFFF.
+fn whole_eights(bytes: &[u8]) -> u16
     ensures { λ r. ⌜ crcFrom r (drop (length (now (bytes .entry)) / 8 * 8) (now (bytes .entry))) ≡ crcOf (now (bytes .entry)) ⌝ }
 {
     if bytes.len() < 8 {
@@ -40,7 +43,7 @@ fn words(bytes: &[u8]) -> u16
     let mut p: u64 = 0;
     let mut i: usize = 0;
     while i <= last {
-        let w = word(bytes, i);
+        let w = eight_at(bytes, i);
         x = spread(folded(x)) ^ w;
         p = p ^ w;
         i += 8;
@@ -48,8 +51,8 @@ fn words(bytes: &[u8]) -> u16
     settled(x, p)
 }
 
-// Eight bytes from i on as one number, the first lowest. The compiler makes one load of it.
-fn word(bytes: &[u8], i: usize) -> u64
+// Eight bytes from i on as one number, the first byte lowest. The compiler makes one load of the loop.
+fn eight_at(bytes: &[u8], i: usize) -> u64
     requires { ⌜ i + 8 ≤ length (now bytes) ⌝ }
     ensures { λ r. ⌜ r ≡ number (take 8 (drop i (now (bytes .entry)))) ⌝ }
 {
@@ -62,8 +65,8 @@ fn word(bytes: &[u8], i: usize) -> u64
     w
 }
 
-// The first 28 shifts, for the remainder: each of the 28 bits that they push out, and of 4 more, stands 28 and 30 places on
-// instead, since t^30 is t^2 + 1.
+// The first 28 shifts. The upper 32 bits move down 28 places. Each of the lower 32 stays where it is and is put two places up as
+// well: for the remainder that is the same as 28 shifts, since t^30 is t^2 + 1.
 fn folded(x: u64) -> u64
     ensures { λ r. ⌜ r ≡ run folded x ⌝ }
 {
@@ -71,14 +74,14 @@ fn folded(x: u64) -> u64
     (x >> 32 << 4) ^ first ^ (first << 2)
 }
 
-// The other 36 shifts. They push out all 36 bits, which stand 56 and 60 places on instead: t^60 is t^4 + 1.
+// The other 36 shifts. They would push out every bit; since t^60 is t^4 + 1, each is put 20 and 24 places up instead.
 fn spread(w: u64) -> u64
     ensures { λ r. ⌜ r ≡ run spread w ⌝ }
 {
     (w << 20) ^ (w << 24)
 }
 
-// The other 36 shifts, down to 16 bits: 22 by t^30, then 14 by t^15, which is t + 1.
+// The other 36 shifts for the last eight bytes, down to 16 bits: 22 since t^30 is t^2 + 1, then 14 since t^15 is t + 1.
 fn narrowed(w: u64) -> u64
     ensures { λ r. ⌜ r ≡ run narrowed w ⌝ }
 {
@@ -100,8 +103,8 @@ fn parity(x: u64) -> u64
     (e ^ (e >> 1)) % 2
 }
 
-// The CRC with the remainder of 64 shifts of x and the parity of p. Where the parity is not right yet, 0xC001 makes it so:
-// that is t^15 + t + 1, which has no remainder and an odd parity.
+// The CRC with the remainder that x has after 64 shifts and with the parity of p. Where the parity is still wrong, 0xC001 is
+// exclusive-ored in: that is t^15 + t + 1, which changes the parity and leaves the remainder.
 fn settled(x: u64, p: u64) -> u16
     ensures { λ r. ⌜ r ≡ settled x p ⌝ }
 {

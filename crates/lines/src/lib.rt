@@ -1,4 +1,4 @@
-// One frame a line, as hex pairs parted by single spaces (paper 01, the program `bench`).
+// One frame a line, as hex pairs with single spaces between them (paper 01, the program `bench`).
 ghost use mathlib.Core.Path.{_≡_};
 ghost use Prim.Native.Nat.{_+_, _*_, _≤_, min};
 ghost use mathlib.Core.Bool.{true};
@@ -10,7 +10,7 @@ pub const LINE_FEED: u8 = 0x0A;
 
 const SPACE: u8 = 0x20;
 
-// A line holds a frame, of which so many bytes had room, or it is no frame.
+// What a line holds: a frame, with the number of its bytes that were put into the buffer, or no frame.
 pub enum Line {
     Frame(usize),
     Bad,
@@ -30,7 +30,7 @@ pub fn line_end(input: &[u8], from: usize) -> usize
     i
 }
 
-// Puts the frame that a line holds at the start of the buffer, as much of it as there is room for.
+// Puts the frame that a line holds at the start of the buffer, as many of its bytes as there is room for. A bad line changes nothing.
 pub fn frame(line: &[u8], buffer: &mut [u8]) -> Line
     ensures { λ r. ⌜ FrameRead (now (line .entry)) (now (buffer .entry)) r (now (buffer .exit)) ⌝ }
 {
@@ -41,7 +41,7 @@ pub fn frame(line: &[u8], buffer: &mut [u8]) -> Line
     }
 }
 
-// A line is tested whole before a byte of it is put: a bad one changes nothing.
+// Tests the whole line, before any of its bytes is put.
 fn line_ok(line: &[u8]) -> bool
     ensures { λ r. ⌜ r ≡ lineOk (now (line .entry)) ⌝ }
 {
@@ -63,7 +63,7 @@ fn line_ok(line: &[u8]) -> bool
     hex::pair_ok(line[i], line[i + 1])
 }
 
-// Each pair starts three characters behind the one before it. Answers how many bytes it put.
+// A pair and its space are three characters. Answers how many bytes it put.
 fn put_bytes(line: &[u8], buffer: &mut [u8]) -> usize
     requires { ⌜ lineOk (now line) ≡ true ⌝ }
     ensures { λ r. ⌜ r ≡ min (length (bytesOf (now (line .entry)))) (length (now (buffer .entry))) ⌝ }
@@ -84,7 +84,7 @@ fn least(a: usize, b: usize) -> usize
     if a < b { a } else { b }
 }
 
-// Puts bytes as hex pairs in capitals at the start of the buffer, and answers how many characters they are. Without room for
+// Puts bytes at the start of the buffer as hex pairs in capitals, and answers how many characters these are. Without room for
 // three characters a byte it changes nothing and answers 0.
 pub fn text(bytes: &[u8], buffer: &mut [u8]) -> usize
     ensures { λ r. ⌜ TextPut (now (bytes .entry)) (now (buffer .entry)) r (now (buffer .exit)) ⌝ }
@@ -100,7 +100,7 @@ pub fn text(bytes: &[u8], buffer: &mut [u8]) -> usize
     3 * n - 1
 }
 
-// The last byte is put by itself, for no space stands behind it.
+// The last byte is put after the loop: no space follows it.
 fn put_text(bytes: &[u8], buffer: &mut [u8])
     requires { ⌜ (1 ≤ length (now bytes)) × (3 * length (now bytes) ≤ length (now buffer)) ⌝ }
     ensures { λ _. ⌜ now (buffer .exit) ≡ sets (now (buffer .entry)) 0 (textOf (now (bytes .entry))) ⌝ }

@@ -1,4 +1,4 @@
-// The energies: whole Wh (varh) and what is left over (paper 01, "The meter's record").
+// The four energies: whole Wh or varh, and a remainder (paper 01, "The meter's record").
 ghost use mathlib.Core.Path.{_≡_};
 ghost use Prim.Native.Nat.{_≤_};
 ghost use Rattle.ratio.specs.Powers.{topPower};
@@ -10,8 +10,9 @@ use counts::WattHours;
 use signed::Signed;
 
 pub struct Energy {
+    // Whole Wh or varh.
     pub wh: WattHours,
-    // In hundredths of a watt-second.
+    // What is left over, less than 1 Wh, in hundredths of a watt-second.
     pub remainder: u32,
 }
 
@@ -22,7 +23,7 @@ impl Energy {
         (self.wh.0 <= Meter::WH_TOP) & (self.remainder <= Meter::REMAINDER_TOP)
     }
 
-    // One second of a power in hundredths of a watt: whole Wh pass from the remainder.
+    // The energy after one more second at a power, in hundredths of W or var. Whole Wh pass from the remainder.
     fn plus(self, power: u64) -> Energy
         requires { ⌜ (self .wh .0 ≤ topWh) × (power ≤ topPower) ⌝ }
         ensures { λ r. ⌜ r ≡ plusOf self power ⌝ }
@@ -35,7 +36,7 @@ impl Energy {
     }
 }
 
-// The energy of one direction and that of the other: +Ea and -Ea, or +Er and -Er.
+// The energies of the two directions: +Ea and -Ea, or +Er and -Er.
 pub struct Energies {
     pub positive: Energy,
     pub negative: Energy,
@@ -48,13 +49,14 @@ impl Energies {
         self.positive.within() & self.negative.within()
     }
 
+    // Only the whole Wh are tested: after a sample a remainder is always within its limit.
     pub(crate) fn within_top(self) -> bool
         ensures { λ r. ⌜ r ≡ withinTop self ⌝ }
     {
         (self.positive.wh.0 <= Meter::WH_TOP) & (self.negative.wh.0 <= Meter::WH_TOP)
     }
 
-    // One second of a 3-phase power.
+    // The energies after one more second at a 3-phase power: its sign says which one grows.
     pub(crate) fn plus(self, power: Signed) -> Energies
         requires { ⌜ Room self power ⌝ }
         ensures { λ r. ⌜ r ≡ withPower self power ⌝ }
@@ -66,14 +68,14 @@ impl Energies {
     }
 }
 
-// What a meter counts: active and reactive energies.
+// All that a meter counts: the active and the reactive energies.
 pub struct Counters {
     pub active: Energies,
     pub reactive: Energies,
 }
 
 impl Counters {
-    // The counters of a new meter: every count and every remainder 0.
+    // The counters of a new meter: every energy and every remainder 0.
     pub(crate) fn none() -> Counters
         ensures { λ r. ⌜ r ≡ noCounters ⌝ }
     {
@@ -103,7 +105,7 @@ impl Counters {
         self.active.within_top() & self.reactive.within_top()
     }
 
-    // One second of 3-phase P and Q.
+    // The counters after one more second at 3-phase powers P and Q.
     pub(crate) fn plus(self, p: Signed, q: Signed) -> Counters
         requires { ⌜ Room (self .active) p × Room (self .reactive) q ⌝ }
         ensures { λ r. ⌜ r ≡ withPowers self p q ⌝ }

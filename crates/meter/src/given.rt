@@ -5,7 +5,7 @@ use crate::Meter;
 use ratio::Ratios;
 
 pub struct Given {
-    // The address that it answers to.
+    // Its own address, 1 to 255.
     pub address: u8,
     pub ratios: Ratios,
 }

@@ -1,10 +1,11 @@
-// The setup groups (paper 01, "The meter's record"). They are kept and alter no measurement.
+// The setup groups (paper 01, "The meter's record"). A meter keeps them and sends them back; no measurement depends on them.
 ghost use mathlib.Core.Path.{_≡_};
 ghost use Rattle.meter.specs.Groups.{setupOk, noSetup};
 
 pub struct Setup {
-    // Words from 0x2000 and from 0x2200 on.
+    // The words from 0x2000 on.
     pub standard: [u16; 16],
+    // The words from 0x2200 on.
     pub output: [u16; 24],
 }
 

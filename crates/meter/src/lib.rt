@@ -17,7 +17,7 @@ use ratio::Ratios;
 use refusal::Refusal;
 use samples::Sample;
 
-// The record, in groups: each has its own limits, and its own part of a new meter.
+// A meter's record, in groups. Each group tests its own limits and says what it is in a new meter.
 pub struct Meter {
     pub given: Given,
     pub counters: Counters,
@@ -25,12 +25,13 @@ pub struct Meter {
     pub setup: Setup,
 }
 
+// The answer to a new meter or to a sample.
 pub enum Answer {
     Accepted,
     Refused(Refusal),
 }
 
-// An answer, beside the meter that follows from it.
+// An answer, and the meter after the call.
 pub struct Answered {
     pub answer: Answer,
     pub meter: Meter,
@@ -39,18 +40,21 @@ pub struct Answered {
 impl Meter {
     pub const ADDRESS_LEAST: u8 = 1;
 
-    // Of an energy: whole Wh, the remainder in hundredths of a watt-second, and how many of these are 1 Wh.
+    // The largest energy, in whole Wh or varh.
     pub const WH_TOP: u64 = 65_535_999_999_999;
 
+    // The largest remainder of an energy, in hundredths of a watt-second.
     pub const REMAINDER_TOP: u32 = 359_999;
 
+    // 1 Wh, in hundredths of a watt-second.
     pub const ONE_WH: u64 = 360_000;
 
+    // The largest magnitude of a power factor, in thousandths.
     pub const FACTOR_TOP: u64 = 1_000;
 
     pub const SECTOR_TOP: u8 = 2;
 
-    // A new meter. One that is refused is handed back out of limits, so that every later call refuses it.
+    // A new meter. If it is refused, its record is out of limits, so that every later call refuses it too.
     pub fn new(address: u8, ratios: Ratios) -> Answered
         ensures { λ r. ⌜ r ≡ newOf address ratios ⌝ }
     {
@@ -67,7 +71,7 @@ impl Meter {
         }
     }
 
-    // Each group as it is in a new meter.
+    // The record of a new meter, whatever it is given.
     fn blank(address: u8, ratios: Ratios) -> Meter
         ensures { λ r. ⌜ r ≡ blankOf address ratios ⌝ }
     {
@@ -98,7 +102,7 @@ impl Meter {
             & self.setup.within()
     }
 
-    // The meter after a sample of one second.
+    // The meter after a sample of one second. A refused sample leaves it as it was.
     pub fn after(self, sample: Sample) -> Answered
         ensures { λ r. ⌜ r ≡ afterOf self sample ⌝ }
     {
@@ -118,7 +122,7 @@ impl Meter {
         }
     }
 
-    // The sample is the latest, and its powers are added to the energies.
+    // The meter with the sample as its latest, and the sample's powers added to its energies.
     fn counted(self, sample: Sample) -> Meter
         requires { ⌜ (meterOk self ≡ true) × (sampleOk (meterT self) sample ≡ true) ⌝ }
         ensures { λ r. ⌜ r ≡ nextOf self sample ⌝ }

@@ -22,23 +22,24 @@ impl Powers {
         (one.magnitude <= limit) & (two.magnitude <= limit) & (three.magnitude <= limit)
     }
 
-    // The sum of all three phases, which the limits go by. Nobody else adds phases.
-    fn three(self) -> Signed
+    // The sum of all three phases, which the power limit is for. Phases are added nowhere else.
+    fn sum(self) -> Signed
         requires { ⌜ Held self ⌝ }
         ensures { λ r. ⌜ r ≡ threeOf self ⌝ }
     {
         Signed::of(self.l1 + self.l2 + self.l3)
     }
 
-    // The sum in force, which everything shown and counted goes by: of all three.
+    // The 3-phase power that is shown and counted: the sum of all three phases.
     pub fn in_force(self) -> Signed
         requires { ⌜ Held self ⌝ }
         ensures { λ r. ⌜ r ≡ inForce self ⌝ }
     {
-        self.three()
+        self.sum()
     }
 
-    // Each phase and the sum of all three. Phases beyond the limit are not added: their sum may not fit.
+    // Whether each phase and the sum of all three are within the limit at a ratio of t tenths. Phases beyond it are not added, as
+    // their sum may not fit 64 bits.
     fn within(self, t: u32) -> bool
         ensures { λ r. ⌜ r ≡ powersOk t self ⌝ }
     {
@@ -46,15 +47,16 @@ impl Powers {
         if !self.phases_within(limit) {
             return false;
         }
-        let sum = self.three();
+        let sum = self.sum();
         sum.magnitude <= limit
     }
 }
 
-// Power factor, in thousandths.
+// A power factor, in thousandths.
 pub struct Factor(pub i16);
 
 impl Factor {
+    // The thousandths as magnitude and sign.
     pub fn signed(self) -> Signed
         ensures { λ r. ⌜ r ≡ factorOf self ⌝ }
     {
@@ -63,16 +65,20 @@ impl Factor {
 }
 
 pub struct Sample {
-    // mV: L1, L2, L3, then chained L1-L2, L2-L3, L3-L1, as the directory numbers them.
+    // In mV: L1, L2, L3, then chained L1-L2, L2-L3, L3-L1, in the order of the quantities of the directory.
     pub voltages: [u32; 6],
-    // mA: L1, L2, L3, neutral, as the directory numbers them.
+    // In mA: L1, L2, L3, neutral, in the order of the quantities of the directory.
     pub currents: [u32; 4],
+    // Active power.
     pub p: Powers,
+    // Reactive power.
     pub q: Powers,
     // Apparent power, in hundredths of VA.
     pub s: u64,
     pub factor: Factor,
+    // 0 to 2.
     pub sector: u8,
+    // Of the phases, 1 or 2.
     pub sequence: u8,
     // In tenths of Hz.
     pub frequency: u16,

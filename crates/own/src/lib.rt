@@ -1,5 +1,5 @@
-// Paper 01's own directory (paper 01, "The directory"): its items as one flat constant table, how far it is seen, and the run of a
-// read along it.
+// Paper 01's own directory (paper 01, "The directory"): its items as one flat constant table, how much of it may be read, and
+// which run of its items a read asks for.
 pub mod table;
 
 ghost use mathlib.Core.Path.{_≡_};
@@ -12,7 +12,7 @@ use directory::Span;
 // How many items the table has.
 pub const ITEMS: usize = 142;
 
-// All of the table, and at most so many words in one read.
+// The whole table, and at most 120 words in one read.
 pub fn reach() -> Reach
     ensures { λ r. ⌜ r ≡ ownReach ⌝ }
 {
@@ -22,7 +22,8 @@ pub fn reach() -> Reach
     }
 }
 
-// The run for `words` words from `start`, whatever their number.
+// The run of items for `words` words from the address `start`. Any number of words is taken: the limit of one read is
+// not tested here.
 pub fn run(start: u16, words: u16) -> Span
     ensures { λ r. ⌜ r ≡ runIn directory start words ⌝ }
 {

@@ -1,5 +1,5 @@
-// Paper 01's 142 items: address, addresses filled, words sent, quantity. Byte block: L is 4, 2; W 2, 1; B 1, 1.
-// Word blocks: L is 2, 2; W 1, 1. Laid out by hand, one item a line.
+// Paper 01's 142 items, one a line: first address, addresses filled, words sent, quantity. In the byte block an L is 4, 2, a W is
+// 2, 1 and a B is 1, 1; in the word blocks an L is 2, 2 and a W is 1, 1. Laid out by hand.
 use directory::quantity::*;
 
 pub const TABLE: [u16; 568] = [

@@ -1,14 +1,14 @@
 // Transformer ratios, and what follows from them: the power unit and limit, and the step in which a register counts an
-// energy (paper 01, "Steps of the registers"). Everything below the ratios themselves goes by their product T alone.
+// energy (paper 01, "Steps of the registers"). All but the limits of the ratios follows from their product T alone.
 ghost use mathlib.Core.Path.{_≡_};
 ghost use Rattle.ratio.specs.Ratios.{ratiosOk, tOf};
 ghost use Rattle.ratio.specs.Powers.{powerUnit, powerRegister, powerLimit};
 ghost use Rattle.ratio.specs.Steps.{stepOf};
 
 pub struct Ratios {
-    // Current transformer, a whole number.
+    // KTA, the current transformer, a whole number.
     pub kta: u16,
-    // Voltage transformer, in tenths.
+    // KTV, the voltage transformer, in tenths.
     pub ktv: u16,
 }
 
@@ -17,10 +17,12 @@ impl Ratios {
 
     pub const KTA_TOP: u16 = 9_999;
 
+    // In tenths, as KTV is.
     pub const KTV_LEAST: u16 = 10;
 
     pub const KTV_TOP: u16 = 9_999;
 
+    // Whether both ratios are within their limits.
     pub fn within(self) -> bool
         ensures { λ r. ⌜ r ≡ ratiosOk self ⌝ }
     {
@@ -29,7 +31,7 @@ impl Ratios {
             & ((Ratios::KTV_LEAST <= self.ktv) & (self.ktv <= Ratios::KTV_TOP))
     }
 
-    // T, ten times the true ratio.
+    // T, which is KTA x KTV: the true ratio in tenths.
     pub fn tenths(self) -> u32
         ensures { λ r. ⌜ r ≡ tOf self ⌝ }
     {
@@ -37,7 +39,7 @@ impl Ratios {
     }
 }
 
-// The hundredths of a whole W, var or VA.
+// A whole W, var or VA, in hundredths.
 pub const WHOLE_UNIT: u64 = 100;
 
 // From this T on, power registers count whole units, and powers may be larger.
@@ -50,14 +52,14 @@ pub fn power_unit(t: u32) -> u64
     if t < WHOLE_UNITS_FROM { 1 } else { WHOLE_UNIT }
 }
 
-// What a P, Q or S register holds of a magnitude in hundredths.
+// What a P, Q or S register shows of a magnitude in hundredths, rounded down.
 pub fn power_register(t: u32, hundredths: u64) -> u64
     ensures { λ r. ⌜ r ≡ powerRegister t hundredths ⌝ }
 {
     hundredths / power_unit(t)
 }
 
-// The largest magnitude of a power, in hundredths.
+// The largest magnitude that a power may have, in hundredths of W, var or VA.
 pub fn power_limit(t: u32) -> u64
     ensures { λ r. ⌜ r ≡ powerLimit t ⌝ }
 {

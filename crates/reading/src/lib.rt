@@ -1,5 +1,5 @@
 // What the words of an item read as (paper 01, "Collector"): a quantity in its unit, or refusal 13 for a value that no
-// meter shows. It goes by the kind of the item's quantity; one function for an item of two words, one for one of one.
+// meter shows. The kind of the item's quantity decides. `long` reads an item of two words, `word` an item of one.
 ghost use mathlib.Core.Path.{_≡_};
 ghost use Prim.Native.Nat.{_*_, _-_, _/_, _≤_};
 ghost use mathlib.Core.Bool.{cond};
@@ -14,7 +14,7 @@ use refusal::ErrorCode;
 use refusal::Refusal;
 use signed::Signed;
 
-// In the order of paper 01's list of readings.
+// A reading. The order is that of paper 01's list of readings.
 pub enum Quantity {
     // In mV.
     Voltage(u32),
@@ -24,27 +24,33 @@ pub enum Quantity {
     Power(u64),
     // In whole W or var.
     SignedPower(Signed),
-    // What a register shows, the Wh of one count at the ratios told, and the energy that this makes.
+    // The count that a register shows, the step in Wh at the ratios told, and the energy that these make.
     Energy {
         count: Count,
         step: u32,
         wh: WattHours,
     },
+    // In Wh or varh.
     Low(u32),
+    // In MWh or Mvarh.
     High(u32),
+    // How often the register has turned over to 0.
     Wrap(u16),
     // In thousandths.
     Factor(Signed),
     // 0 for zero or more, 1 for negative.
     Sign(u16),
+    // 0 to 2.
     Sector(u16),
     // In tenths of Hz.
     Frequency(u16),
+    // A whole number.
     Kta(u16),
     // In tenths.
     Ktv(u16),
+    // Of the phases, 1 or 2.
     Sequence(u16),
-    // Identifiers, zeros and setup.
+    // A word without a unit: an identifier, a zero or a setup word.
     Plain(u16),
 }
 
@@ -60,7 +66,7 @@ const TOP_IN_HUNDREDTHS: u64 = 100;
 
 const TOP_IN_THOUSANDTHS: u64 = 1_000;
 
-// What an L reads as, at ratios of product t.
+// What an L reads as, at a ratio of t tenths.
 pub fn long(t: u32, quantity: u16, value: u32) -> Answer
     ensures { λ r. ⌜ r ≡ longOf t quantity value ⌝ }
 {
@@ -79,7 +85,7 @@ pub fn long(t: u32, quantity: u16, value: u32) -> Answer
     }
 }
 
-// What a W reads as, or a B, whose upper byte is to be 0.
+// What a W reads as, or if `byte` a B, whose upper byte has to be 0.
 pub fn word(quantity: u16, byte: bool, value: u16) -> Answer
     ensures { λ r. ⌜ r ≡ wordOf quantity byte value ⌝ }
 {
@@ -107,6 +113,7 @@ pub fn word(quantity: u16, byte: bool, value: u16) -> Answer
     }
 }
 
+// A reading, if its value is one that a meter can show.
 fn when(possible: bool, quantity: Quantity) -> Answer
     ensures { λ r. ⌜ r ≡ when possible quantity ⌝ }
 {
@@ -117,7 +124,7 @@ fn when(possible: bool, quantity: Quantity) -> Answer
     }
 }
 
-// The hundredths that one count of a power stands for: S has one place that is always in whole VA.
+// The hundredths that one count of a power register stands for. One register of S is in whole VA at any ratio.
 fn unit(t: u32, which: u16) -> u64
     ensures { λ r. ⌜ r ≡ unitOf t which ⌝ }
 {
@@ -128,7 +135,7 @@ fn unit(t: u32, which: u16) -> u64
     }
 }
 
-// A step is applied here, and nowhere before.
+// The step is applied here: until now the value was a count.
 fn energy(t: u32, value: u32) -> Quantity
     ensures { λ r. ⌜ r ≡ counted t value ⌝ }
 {
@@ -140,7 +147,7 @@ fn energy(t: u32, value: u32) -> Quantity
     }
 }
 
-// A factor in units of so many thousandths, at most `top` of them.
+// A factor that is sent in units of `unit` thousandths, and is at most `top` of these in magnitude.
 fn factor(s: Signed, top: u64, unit: u64) -> Answer
     requires { ⌜ (top ≤ 1000) × (unit ≤ 10) ⌝ }
     ensures { λ r. ⌜ r ≡ when (leb (s .magnitude) top) (Factor (times unit s)) ⌝ }
@@ -166,7 +173,7 @@ fn signed_word(value: u16) -> Signed
     signed_in(65_536, value as u64)
 }
 
-// Two's complement: the upper half of the words' numbers are negative, each by what it lacks to the full.
+// Two's complement. `full` is how many values the words can have; each of the upper half of them stands for value - full.
 fn signed_in(full: u64, value: u64) -> Signed
     requires { ⌜ value ≤ full ⌝ }
     ensures { λ r. ⌜ r ≡ record { negative = leb (full / 2) value; magnitude = cond (leb (full / 2) value) (full - value) value } ⌝ }

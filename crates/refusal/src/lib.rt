@@ -1,5 +1,5 @@
 // Why a call is refused, and the error codes that a meter answers with (paper 01, "Refusal numbers" and "What the
-// meter does with a frame"). Every answer of the floors above names its reason by one of these.
+// meter does with a frame"). Every call that refuses anything gives its reason by one of these names.
 ghost use mathlib.Core.Path.{_≡_};
 ghost use Rattle.refusal.specs.Numbers.{refusalNumber, errorNumber};
 
@@ -22,7 +22,7 @@ pub enum Refusal {
 }
 
 impl Refusal {
-    // The number of the reason's row.
+    // The number of its row.
     pub fn number(self) -> u8
         ensures { λ r. ⌜ r ≡ refusalNumber self ⌝ }
     {
@@ -53,7 +53,7 @@ pub enum ErrorCode {
 }
 
 impl ErrorCode {
-    // The code as it is sent.
+    // The code as it is sent in an error reply.
     pub fn number(self) -> u8
         ensures { λ r. ⌜ r ≡ errorNumber self ⌝ }
     {

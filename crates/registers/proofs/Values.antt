@@ -126,7 +126,7 @@ power-most m which h =
 
 -- ---- plain words
 
--- the words of two groups, numbered through
+-- the words of one group and then of another
 pub second-at : (a b : List ℕ) (i : ℕ) → length a ≤ i → getD (a ++ b) i 0 ≡ getD b (i - length a) 0
 second-at a b i h = ap (λ (k : ℕ). getD (a ++ b) k 0) split ∙ getD-append-add a b (i - length a) 0
   where

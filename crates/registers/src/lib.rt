@@ -1,5 +1,5 @@
 // What the registers show (paper 01, "Steps of the registers" and "The directory"): from a meter and a quantity to the value
-// that is sent for it. It goes by kind, then by which quantity of the kind; a number that is no quantity shows 0.
+// that is sent for it. A match on the kind comes first, then one on which quantity of the kind. A number that is no quantity shows 0.
 ghost use mathlib.Core.Path.{_≡_};
 ghost use mathlib.Core.Bool.{true};
 ghost use mathlib.Core.List.{[], _∷_, _++_};
@@ -16,6 +16,7 @@ use meter::groups::Setup;
 use meter::samples::Factor;
 use signed::Signed;
 
+// The value that is sent for a quantity. An item of one word sends the lower 16 bits of it.
 pub fn shown(m: Meter, quantity: u16) -> u32
     requires { ⌜ meterOk m ≡ true ⌝ }
     ensures { λ r. ⌜ r ≡ shownOf m quantity ⌝ }
@@ -57,6 +58,7 @@ fn current(m: Meter, which: u16) -> u32
     long_at(&currents, which)
 }
 
+// One figure of a list; 0 past its end.
 fn long_at(longs: &[u32], which: u16) -> u32
     ensures { λ r. ⌜ r ≡ getD (now (longs .entry)) which 0 ⌝ }
 {
@@ -64,7 +66,7 @@ fn long_at(longs: &[u32], which: u16) -> u32
     if i < longs.len() { longs[i] } else { 0 }
 }
 
-// Registers of P, Q and S hold magnitudes in the ratio's unit; S stands in whole VA besides.
+// Registers of P, Q and S hold a magnitude in the unit that the ratio gives. One more register of S is in whole VA at any ratio.
 fn power(m: Meter, which: u16) -> u32
     requires { ⌜ meterOk m ≡ true ⌝ }
     ensures { λ r. ⌜ r ≡ getD (powerValues m) which 0 ⌝ }
@@ -80,7 +82,7 @@ fn power(m: Meter, which: u16) -> u32
     }
 }
 
-// Whole W or var: dividing the magnitude cuts toward zero, and a number cut to zero has no sign.
+// Whole W or var, cut toward zero: the magnitude is divided. A negative power that is cut to zero is sent as 0.
 fn signed_power(m: Meter, which: u16) -> u32
     requires { ⌜ meterOk m ≡ true ⌝ }
     ensures { λ r. ⌜ r ≡ getD (signedWordValues m) which 0 ⌝ }
@@ -96,14 +98,14 @@ fn sign(m: Meter, which: u16) -> u32
     sign_word(power_at(m, which))
 }
 
-// The sign of the power itself, also where its whole units are 0.
+// The sign of the power before it is cut to whole units.
 fn sign_word(power: Signed) -> u32
     ensures { λ r. ⌜ r ≡ signWord (power .negative) ⌝ }
 {
     if power.negative { 1 } else { 0 }
 }
 
-// The signed powers of the latest sample; 3-phase, the sum in force.
+// A signed power of the latest sample: 3-phase P or Q, or that of one phase.
 fn power_at(m: Meter, which: u16) -> Signed
     requires { ⌜ meterOk m ≡ true ⌝ }
     ensures { λ r. ⌜ r ≡ powerAt m which ⌝ }
@@ -165,6 +167,7 @@ fn energy_at(m: Meter, which: u16) -> WattHours
     }
 }
 
+// Hundredths are the thousandths cut toward zero: the magnitude is divided.
 fn factor(f: Factor, which: u16) -> u32
     requires { ⌜ factorOf f .magnitude ≤ 1000 ⌝ }
     ensures { λ r. ⌜ r ≡ getD (factorValues (factorOf f)) which 0 ⌝ }
@@ -180,7 +183,7 @@ fn factor(f: Factor, which: u16) -> u32
     }
 }
 
-// The value of a kind that has one quantity.
+// The value of a kind that has only one quantity.
 fn only(value: u16, which: u16) -> u32
     ensures { λ r. ⌜ r ≡ getD (value ∷ []) which 0 ⌝ }
 {
@@ -198,22 +201,22 @@ fn plain(m: Meter, which: u16) -> u32
     }
 }
 
-// The setup words, numbered through both groups.
+// A setup word by its index: first the standard group's 16 words, then the output group's 24.
 fn setup_at(setup: Setup, i: usize) -> u16
     ensures { λ r. ⌜ r ≡ getD (setup .standard ++ setup .output) i 0 ⌝ }
 {
     let standard = setup.standard;
     let output = setup.output;
-    word_at(&standard, &output, i)
+    setup_word(&standard, &output, i)
 }
 
-// The words of two groups, numbered through.
-fn word_at(first: &[u16], second: &[u16], i: usize) -> u16
-    ensures { λ r. ⌜ r ≡ getD (now (first .entry) ++ now (second .entry)) i 0 ⌝ }
+// The same with the groups lent as slices. Past both of them there is 0.
+fn setup_word(standard: &[u16], output: &[u16], i: usize) -> u16
+    ensures { λ r. ⌜ r ≡ getD (now (standard .entry) ++ now (output .entry)) i 0 ⌝ }
 {
-    if i < first.len() {
-        return first[i];
+    if i < standard.len() {
+        return standard[i];
     }
-    let j = i - first.len();
-    if j < second.len() { second[j] } else { 0 }
+    let j = i - standard.len();
+    if j < output.len() { output[j] } else { 0 }
 }

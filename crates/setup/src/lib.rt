@@ -18,21 +18,21 @@ pub fn word_ok(address: u16, value: u16) -> bool
     }
 }
 
-// Whether the setup words from 0x2000 on may each hold their value. Only those that have a range are looked at.
-pub fn standard_ok(words: [u16; 16]) -> bool
-    ensures { λ r. ⌜ r ≡ groupOk 0x2000 words ⌝ }
+// Whether each of the setup words from 0x2000 on may hold its value. Only the words that have a range are tested.
+pub fn standard_ok(group: [u16; 16]) -> bool
+    ensures { λ r. ⌜ r ≡ groupOk 0x2000 group ⌝ }
 {
-    word_ok(0x2005, words[5])
-        & word_ok(0x200a, words[10])
-        & word_ok(0x200b, words[11])
-        & word_ok(0x200c, words[12])
-        & word_ok(0x200d, words[13])
-        & word_ok(0x200e, words[14])
+    word_ok(0x2005, group[5])
+        & word_ok(0x200a, group[10])
+        & word_ok(0x200b, group[11])
+        & word_ok(0x200c, group[12])
+        & word_ok(0x200d, group[13])
+        & word_ok(0x200e, group[14])
 }
 
-// The same of those from 0x2200 on.
-pub fn output_ok(words: [u16; 24]) -> bool
-    ensures { λ r. ⌜ r ≡ groupOk 0x2200 words ⌝ }
+// The same for the setup words from 0x2200 on.
+pub fn output_ok(group: [u16; 24]) -> bool
+    ensures { λ r. ⌜ r ≡ groupOk 0x2200 group ⌝ }
 {
-    word_ok(0x2215, words[21]) & word_ok(0x2216, words[22]) & word_ok(0x2217, words[23])
+    word_ok(0x2215, group[21]) & word_ok(0x2216, group[22]) & word_ok(0x2217, group[23])
 }

@@ -1,15 +1,16 @@
-// A signed number as its magnitude and whether it is negative: every floor above goes by these two; only the 3-phase
-// sum adds the numbers themselves.
+// A signed number as a magnitude and whether it is negative. All other crates use this form; only the 3-phase sum adds
+// signed numbers.
 ghost use mathlib.Core.Path.{_≡_};
 ghost use Rattle.signed.specs.Signs.{signedOf, aboveOf, belowOf};
 
 pub struct Signed {
     pub negative: bool,
+    // In the unit of the number.
     pub magnitude: u64,
 }
 
 impl Signed {
-    // The complement of a negative number is one less than its magnitude, and fits for the least number too.
+    // A number in this form. The magnitude of a negative one is its complement plus 1, which fits for the least i64 too.
     pub fn of(number: i64) -> Signed
         ensures { λ r. ⌜ r ≡ signedOf number ⌝ }
     {

@@ -14,20 +14,20 @@ pub enum Verdict {
     Wrong(ErrorCode),
 }
 
-// The verdict, beside the meter that follows from it.
+// The verdict, and the meter after the write.
 pub struct Written {
     pub verdict: Verdict,
     pub meter: Meter,
 }
 
-// The meter after a write. What is wrong with one leaves it as it was.
+// Judges a write, and stores its group of setup words. A wrong write leaves the meter as it was.
 pub fn write(m: Meter, frame: &[u8]) -> Written
     ensures { λ r. ⌜ r ≡ writtenOf m (now (frame .entry)) ⌝ }
 {
     if !modbus::write_shaped(frame) {
         return wrong(m, ErrorCode::Data);
     }
-    match words::word_at(frame, modbus::START) {
+    match words::word_at(frame, modbus::START_AT) {
         0x2000 => standard(m, frame),
         0x2200 => output(m, frame),
         _ => wrong(m, ErrorCode::Address),
@@ -49,7 +49,7 @@ fn standard(m: Meter, frame: &[u8]) -> Written
     ensures { λ r. ⌜ r ≡ writtenOf m (now (frame .entry)) ⌝ }
 {
     let mut group = [0u16; 16];
-    if words::word_at(frame, modbus::WORD_NUMBER) != 16 {
+    if words::word_at(frame, modbus::WORDS_AT) != 16 {
         return wrong(m, ErrorCode::Data);
     }
     modbus::values(frame, &mut group);
@@ -78,7 +78,7 @@ fn output(m: Meter, frame: &[u8]) -> Written
     ensures { λ r. ⌜ r ≡ writtenOf m (now (frame .entry)) ⌝ }
 {
     let mut group = [0u16; 24];
-    if words::word_at(frame, modbus::WORD_NUMBER) != 24 {
+    if words::word_at(frame, modbus::WORDS_AT) != 24 {
         return wrong(m, ErrorCode::Data);
     }
     modbus::values(frame, &mut group);

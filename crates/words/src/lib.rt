@@ -1,5 +1,5 @@
 // Words on the line: two bytes, upper byte first; a long is two words, upper word first (paper 01, "The directory").
-// The callers hold the place and the width within the buffer, so nothing is tested again here.
+// The callers see to it that place and width fit the buffer, so nothing is tested again here.
 ghost use mathlib.Core.Path.{_≡_};
 ghost use Prim.Native.Nat.{_+_, _*_, _≤_, _<_};
 ghost use lib.ListN.{length};
@@ -7,25 +7,25 @@ ghost use lib.Seq.{sets};
 ghost use Rattle.words.specs.Words.{word, sent, wordAt, valueAt};
 ghost use Rattle.words.specs.Signed.{twos};
 
-fn put_word(buf: &mut [u8], at: usize, w: u16)
-    requires { ⌜ at + 2 ≤ length (now buf) ⌝ }
-    ensures { λ _. ⌜ now (buf .exit) ≡ sets (now (buf .entry)) at (word w) ⌝ }
+fn put_word(buffer: &mut [u8], at: usize, w: u16)
+    requires { ⌜ at + 2 ≤ length (now buffer) ⌝ }
+    ensures { λ _. ⌜ now (buffer .exit) ≡ sets (now (buffer .entry)) at (word w) ⌝ }
 {
-    buf[at] = (w / 256) as u8;
-    buf[at + 1] = (w % 256) as u8;
+    buffer[at] = (w / 256) as u8;
+    buffer[at + 1] = (w % 256) as u8;
 }
 
-// One word of v, its lower, or both.
-pub fn put(buf: &mut [u8], at: usize, words: usize, v: u32)
-    requires { ⌜ (at + 2 * words ≤ length (now buf)) × ((1 ≤ words) × (words ≤ 2)) ⌝ }
-    ensures { λ _. ⌜ now (buf .exit) ≡ sets (now (buf .entry)) at (sent words v) ⌝ }
+// Puts v at a place of the buffer: its lower 16 bits as one word, or all 32 as two.
+pub fn put(buffer: &mut [u8], at: usize, words: usize, v: u32)
+    requires { ⌜ (at + 2 * words ≤ length (now buffer)) × ((1 ≤ words) × (words ≤ 2)) ⌝ }
+    ensures { λ _. ⌜ now (buffer .exit) ≡ sets (now (buffer .entry)) at (sent words v) ⌝ }
 {
     let lower = (v % 65536) as u16;
     if words == 1 {
-        put_word(buf, at, lower);
+        put_word(buffer, at, lower);
     } else {
-        put_word(buf, at, (v / 65536) as u16);
-        put_word(buf, at + 2, lower);
+        put_word(buffer, at, (v / 65536) as u16);
+        put_word(buffer, at + 2, lower);
     }
 }
 
@@ -35,6 +35,7 @@ fn wide(b: u8) -> u16
     b as u16
 }
 
+// The word at a place.
 pub fn word_at(bytes: &[u8], at: usize) -> u16
     requires { ⌜ at + 2 ≤ length (now bytes) ⌝ }
     ensures { λ r. ⌜ r ≡ wordAt (now (bytes .entry)) at ⌝ }
@@ -42,7 +43,7 @@ pub fn word_at(bytes: &[u8], at: usize) -> u16
     wide(bytes[at]) * 256 + wide(bytes[at + 1])
 }
 
-// The value of one word, or of two.
+// The value at a place: of one word, or of two.
 pub fn value_at(bytes: &[u8], at: usize, words: usize) -> u32
     requires { ⌜ (at + 2 * words ≤ length (now bytes)) × ((1 ≤ words) × (words ≤ 2)) ⌝ }
     ensures { λ r. ⌜ r ≡ valueAt words (now (bytes .entry)) at ⌝ }
@@ -55,7 +56,7 @@ pub fn value_at(bytes: &[u8], at: usize, words: usize) -> u32
     }
 }
 
-// Two's complement in one word.
+// A signed number in one word, as two's complement.
 pub fn twos_word(negative: bool, magnitude: u16) -> u16
     ensures { λ r. ⌜ r ≡ twos 1 negative magnitude ⌝ }
 {
@@ -68,7 +69,7 @@ pub fn twos_word(negative: bool, magnitude: u16) -> u16
     65535 - (magnitude - 1)
 }
 
-// Two's complement in two words.
+// A signed number in two words, as two's complement.
 pub fn twos_long(negative: bool, magnitude: u32) -> u32
     ensures { λ r. ⌜ r ≡ twos 2 negative magnitude ⌝ }
 {

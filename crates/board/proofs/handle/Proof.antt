@@ -24,35 +24,35 @@ room c = le-ltb _ _ (c .if2 .left)
 heard : (c : tie.Else3) → silence (c .before .before .before .before .before .before .before .args .meter .given .address) (c .before .before .before .before .before .before .before .args .frame .now) ≡ false
 heard c = sym (c .before .silence .ensures) ∙ c .if3 .left
 
-with-requires : tie.Need-with-requires
-with-requires c κs = search needs
+hand-back-requires : tie.Need-hand-back-requires
+hand-back-requires c κs = search needs
 
 returns : tie.Need-returns
 returns c =
     let s = c .before .before .before .before .before in
     let b = allowed (board-1 own (s .args .meter) (s .args .frame .now) (s .args .buffer .now) (sym (c .before .before .within .ensures) ∙ not-true _ (c .before .if1 .taken))) in
-    record { handled = c .with .ensures ∙ b .handled; bytes = b .bytes }
+    record { handled = c .hand-back .ensures ∙ b .handled; bytes = b .bytes }
 
-with-requires-2 : tie.Need-with-requires-2
-with-requires-2 c κs = search needs
+hand-back-requires-2 : tie.Need-hand-back-requires-2
+hand-back-requires-2 c κs = search needs
 
 returns-2 : tie.Need-returns-2
 returns-2 c =
     let s = c .before .before .before .before .before .before in
     let b = allowed (board-2 own (s .args .meter) (s .args .frame .now) (s .args .buffer .now) (within (c .before .before)) (lt-ltb _ _ (c .before .if2 .taken))) in
-    record { handled = c .with2 .ensures ∙ b .handled; bytes = b .bytes }
+    record { handled = c .hand-back2 .ensures ∙ b .handled; bytes = b .bytes }
 
 silence-requires : tie.Need-silence-requires
 silence-requires c κs = search needs
 
-with-requires-3 : tie.Need-with-requires-3
-with-requires-3 c κs = search needs
+hand-back-requires-3 : tie.Need-hand-back-requires-3
+hand-back-requires-3 c κs = search needs
 
 returns-3 : tie.Need-returns-3
 returns-3 c =
     let s = c .before .before .before .before .before .before .before .before in
     let b = allowed (board-silent own (s .args .meter) (s .args .frame .now) (s .args .buffer .now) (within (c .before .before .before .before)) (room (c .before .before .before)) (sym (c .before .before .silence .ensures) ∙ c .before .if3 .taken)) in
-    record { handled = c .with3 .ensures ∙ b .handled; bytes = b .bytes }
+    record { handled = c .hand-back3 .ensures ∙ b .handled; bytes = b .bytes }
 
 obey-requires : tie.Need-obey-requires
 obey-requires c κs =
@@ -74,12 +74,12 @@ handle-spec =
     tie.close
     (tie.spec
     within-requires
-    with-requires
+    hand-back-requires
     returns
-    with-requires-2
+    hand-back-requires-2
     returns-2
     silence-requires
-    with-requires-3
+    hand-back-requires-3
     returns-3
     obey-requires
     same-length

@@ -29,14 +29,14 @@ returns c = search needs
 shared-slice-read-if2 : tie.Need-shared-slice-read-if2
 shared-slice-read-if2 c = omega (arith, heard (c .before .before .before .before .before) .least)
 
-with-requires : tie.Need-with-requires
-with-requires c κs = search needs
+hand-back-requires : tie.Need-hand-back-requires
+hand-back-requires c κs = search needs
 
 returns-2 : tie.Need-returns-2
 returns-2 c =
     let s = c .before .before .before .before .before .before .before in
     let b = allowed (unwritten own (s .args .meter) (s .args .frame .now) (s .args .buffer .now) (ne-eqb _ _ (c .before .before .before .if1 .left)) (c .before .if2 .taken)) in
-    record { handled = c .with .ensures ∙ b .handled; bytes = b .bytes }
+    record { handled = c .hand-back .ensures ∙ b .handled; bytes = b .bytes }
 
 shared-slice-read-if3 : tie.Need-shared-slice-read-if3
 shared-slice-read-if3 c = omega (arith, heard (c .before .before .before .before .before .before .before) .least)
@@ -80,7 +80,7 @@ obey-spec =
     same-length
     returns
     shared-slice-read-if2
-    with-requires
+    hand-back-requires
     returns-2
     shared-slice-read-if3
     read-requires

@@ -20,15 +20,15 @@ shared-slice-read-address c =
     let s = c .before .before .before .before .before in
     omega (arith, heeded (s .args .meter .given .address) (s .args .frame .now) (s .pre .0) .least)
 
-with-requires : tie.Need-with-requires
-with-requires c κs = search needs
+hand-back-requires : tie.Need-hand-back-requires
+hand-back-requires c κs = search needs
 
 returns : tie.Need-returns
 returns c =
     let s = c .before .before .before .before .before .before .before in
     let w = c .before .before .before .before .write in
     let b = allowed (write-silent own (s .args .meter) (s .args .frame .now) (s .args .buffer .now) (s .pre .1 .0) (w .result) (w .ensures) (c .before .if1 .taken)) in
-    record { handled = c .with .ensures ∙ b .handled; bytes = b .bytes }
+    record { handled = c .hand-back .ensures ∙ b .handled; bytes = b .bytes }
 
 enum-told : tie.Need-enum-told
 enum-told c = search needs
@@ -79,7 +79,7 @@ write-spec =
     (tie.spec
     write-requires
     shared-slice-read-address
-    with-requires
+    hand-back-requires
     returns
     enum-told
     put-echo-requires

@@ -16,8 +16,8 @@ returns c =
     let f = c .before .before .args .request .now in
     sym (heard-by f refl (sym (by-length (addressOf f) f (simp (lt-ltb (length f) 4 (omega arith))))) ∙ simp and-false)
 
-shared-slice-read-own : tie.Need-shared-slice-read-own
-shared-slice-read-own c = search needs
+shared-slice-read-address : tie.Need-shared-slice-read-address
+shared-slice-read-address c = search needs
 
 shared-slice-read-if2 : tie.Need-shared-slice-read-if2
 shared-slice-read-if2 c = search needs
@@ -36,7 +36,7 @@ heard-spec =
     tie.close
     (tie.spec
     returns
-    shared-slice-read-own
+    shared-slice-read-address
     shared-slice-read-if2
     returns-2
     silence-requires

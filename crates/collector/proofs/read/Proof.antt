@@ -32,8 +32,8 @@ returns-2 : tie.Need-returns-2
 unfolding collectorIn
 returns-2 c = simp (sym (c .before .before .before .within .ensures) ∙ not-false _ (c .before .before .if1 .left), sym (c .before .heard .ensures) ∙ not-true _ (c .if2 .taken))
 
-slice-aggregate-along : tie.Need-slice-aggregate-along
-slice-aggregate-along c = search needs
+slice-aggregate-with-table : tie.Need-slice-aggregate-with-table
+slice-aggregate-with-table c = search needs
 
 reach-requires : tie.Need-reach-requires
 reach-requires c κs = search needs
@@ -41,9 +41,9 @@ reach-requires c κs = search needs
 tenths-requires : tie.Need-tenths-requires
 tenths-requires c κs = search needs
 
-along-requires : tie.Need-along-requires
+with-table-requires : tie.Need-with-table-requires
 unfolding directory flat
-along-requires c κs = own-lent _ (c .before .reach .ensures)
+with-table-requires c κs = own-lent _ (c .before .reach .ensures)
 
 -- 3 and 7 are passed
 passed : (v : View) (request reply : List ℕ) (r : Ratios) (index : ℕ) → ratiosOk r ≡ true → heard request ≡ true → onItems v (readIn v request) (λ its. replyOf (tOf r) request reply its index) ≡ collectorIn v request reply r index
@@ -56,7 +56,7 @@ returns-3 c =
     let h = c .before .before .before .before in
     let a = h .before .before .before .before .before .before .args in
     let over : View → ℕ → Answer = λ v t. onItems v (readIn v (a .request .now)) (λ its. replyOf t (a .request .now) (a .reply .now) its (a .index)) in
-    c .along .ensures
+    c .with-table .ensures
     ∙ ap₂ over (own-view _ (c .before .before .reach .ensures)) (c .before .tenths .ensures)
     ∙ passed own (a .request .now) (a .reply .now) (a .ratios) (a .index) (sym (h .before .before .before .within .ensures) ∙ not-false _ (h .before .before .if1 .left)) (sym (h .before .heard .ensures) ∙ not-false _ (h .if2 .left))
 
@@ -68,8 +68,8 @@ read-spec =
     returns
     heard-requires
     returns-2
-    slice-aggregate-along
+    slice-aggregate-with-table
     reach-requires
     tenths-requires
-    along-requires
+    with-table-requires
     returns-3)

@@ -19,11 +19,11 @@ both frame c first second h low high = simp (le-leb 2 (length frame) h, low, hig
 returns : tie.Need-returns
 returns c = ends-in-none _ _ (c .if1 .taken)
 
-low-requires : tie.Need-low-requires
-low-requires c κs = search needs
+low-byte-requires : tie.Need-low-byte-requires
+low-byte-requires c κs = search needs
 
-high-requires : tie.Need-high-requires
-high-requires c κs = search needs
+high-byte-requires : tie.Need-high-byte-requires
+high-byte-requires c κs = search needs
 
 shared-slice-read-result : tie.Need-shared-slice-read-result
 shared-slice-read-result c = search needs
@@ -37,15 +37,15 @@ shared-slice-read-result-2 c = search needs
 returns-2 : tie.Need-returns-2
 returns-2 c =
     let h = c .before .before in
-    both _ _ (h .before .low .result) (h .high .result) (h .before .before .if1 .left) (h .before .low .ensures) (h .high .ensures)
+    both _ _ (h .before .low-byte .result) (h .high-byte .result) (h .before .before .if1 .left) (h .before .low-byte .ensures) (h .high-byte .ensures)
 
 pub ends-in-spec : {M : Type 1} → statement M
 ends-in-spec =
     tie.close
     (tie.spec
     returns
-    low-requires
-    high-requires
+    low-byte-requires
+    high-byte-requires
     shared-slice-read-result
     sub-result
     shared-slice-read-result-2

@@ -13,14 +13,14 @@ use Rattle.crc.specs.Crc.{crcOf, Put}
 use Rattle.crc.proofs.put.Statement.{statement}
 use Rattle.crc.proofs.put.Tie as tie
 
-no-room : (buf : List ℕ) (n : ℕ) → length buf < n + 2 → Put buf n false buf
-no-room buf n h =
-    let e = lt-leb (n + 2) (length buf) h in
+no-room : (buffer : List ℕ) (n : ℕ) → length buffer < n + 2 → Put buffer n false buffer
+no-room buffer n h =
+    let e = lt-leb (n + 2) (length buffer) h in
     record { answer = sym e; bytes = simp e }
 
-room : (buf : List ℕ) (n r first second : ℕ) → n + 2 ≤ length buf → r ≡ crcOf (take n buf) → first ≡ r % 256 → second ≡ r / 256 → Put buf n true (set (set buf n first) (n + 1) second)
-room buf n r first second h c low high =
-    let e = le-leb (n + 2) (length buf) h in
+room : (buffer : List ℕ) (n r first second : ℕ) → n + 2 ≤ length buffer → r ≡ crcOf (take n buffer) → first ≡ r % 256 → second ≡ r / 256 → Put buffer n true (set (set buffer n first) (n + 1) second)
+room buffer n r first second h c low high =
+    let e = le-leb (n + 2) (length buffer) h in
     record { answer = sym e; bytes = simp (e, low, high, c, add-one) }
 
 returns : tie.Need-returns
@@ -41,20 +41,20 @@ slice-aggregate-of c = sym (length-take-le _ _ (omega arith))
 of-requires : tie.Need-of-requires
 of-requires c κs = search needs
 
-low-requires : tie.Need-low-requires
-low-requires c κs = search needs
+low-byte-requires : tie.Need-low-byte-requires
+low-byte-requires c κs = search needs
 
-high-requires : tie.Need-high-requires
-high-requires c κs = search needs
+high-byte-requires : tie.Need-high-byte-requires
+high-byte-requires c κs = search needs
 
-slice-write-buf : tie.Need-slice-write-buf
-slice-write-buf c = search needs
+slice-write-buffer : tie.Need-slice-write-buffer
+slice-write-buffer c = search needs
 
-add-buf : tie.Need-add-buf
-add-buf c = search needs
+add-buffer : tie.Need-add-buffer
+add-buffer c = search needs
 
-slice-write-buf-2 : tie.Need-slice-write-buf-2
-slice-write-buf-2 c = simp length-set (omega arith)
+slice-write-buffer-2 : tie.Need-slice-write-buffer-2
+slice-write-buffer-2 c = simp length-set (omega arith)
 
 same-length : tie.Need-same-length
 same-length c = search needs
@@ -63,7 +63,7 @@ returns-3 : tie.Need-returns-3
 returns-3 c =
     let l = c .before in
     let o = l .before in
-    room _ _ (o .of .result) (l .low .result) (c .high .result) (omega arith) (o .of .ensures) (l .low .ensures) (c .high .ensures)
+    room _ _ (o .of .result) (l .low-byte .result) (c .high-byte .result) (omega arith) (o .of .ensures) (l .low-byte .ensures) (c .high-byte .ensures)
 
 pub put-spec : {M : Type 1} → statement M
 put-spec =
@@ -75,10 +75,10 @@ put-spec =
     slice-reshare-prefix-of
     slice-aggregate-of
     of-requires
-    low-requires
-    high-requires
-    slice-write-buf
-    add-buf
-    slice-write-buf-2
+    low-byte-requires
+    high-byte-requires
+    slice-write-buffer
+    add-buffer
+    slice-write-buffer-2
     same-length
     returns-3)

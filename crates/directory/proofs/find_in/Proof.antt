@@ -17,16 +17,16 @@ abbrev μ-loop : tie.MeasureT-loop
 μ-loop t n address low₀ high₀ low high = high - low
 
 -- the view that is searched, and the item in the middle
-ascends : (s : tie.Start Inv-loop μ-loop) → Ascends 0 (take (s .args .n) (items (s .args .t .now)))
-ascends s = ruled-ascends (take (s .args .n) (items (s .args .t .now))) (s .pre .1)
+ascends : (s : tie.Start Inv-loop μ-loop) → Ascends 0 (take (s .args .seen) (items (s .args .table .now)))
+ascends s = ruled-ascends (take (s .args .seen) (items (s .args .table .now))) (s .pre .1)
 
-size : (s : tie.Start Inv-loop μ-loop) → length (take (s .args .n) (items (s .args .t .now))) ≡ s .args .n
-size s = view-length (s .args .t .now) (s .args .n) (s .pre .0)
+size : (s : tie.Start Inv-loop μ-loop) → length (take (s .args .seen) (items (s .args .table .now))) ≡ s .args .seen
+size s = view-length (s .args .table .now) (s .args .seen) (s .pre .0)
 
-seen : (e : tie.After-item-at Inv-loop μ-loop) → getD (take (e .before .before .before .before .args .n) (items (e .before .before .before .before .args .t .now))) (e .before .before .loop .low + (e .before .before .loop .high - e .before .before .loop .low) / 2) none ≡ e .item-at .result
+seen : (e : tie.After-item-at Inv-loop μ-loop) → getD (take (e .before .before .before .before .args .seen) (items (e .before .before .before .before .args .table .now))) (e .before .before .loop .low + (e .before .before .loop .high - e .before .before .loop .low) / 2) none ≡ e .item-at .result
 seen e =
     let s = e .before .before .before .before in
-    view-item (s .args .t .now) (s .args .n) (s .pre .0) _ (omega arith) (e .item-at .ensures)
+    view-item (s .args .table .now) (s .args .seen) (s .pre .0) _ (omega arith) (e .item-at .ensures)
 
 loop-holds : tie.Need-loop-holds Inv-loop μ-loop
 loop-holds c = (omega arith, window-whole _ _ _ (size (c .before)))

@@ -45,7 +45,7 @@ shared-slice-read-t18 c = search needs
 returns : tie.Need-returns
 returns c =
     let s = c .before .before .before .before in
-    sym (item-of (s .args .t .now) (s .args .i) (omega arith))
+    sym (item-of (s .args .table .now) (s .args .i) (omega arith))
 
 pub item-at-spec : {M : Type 1} → statement M
 item-at-spec =

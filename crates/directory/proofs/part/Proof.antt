@@ -32,7 +32,7 @@ returns : tie.Need-returns
 returns c =
     let a = c .before .args in
     let long : 4 * a .first + 4 * a .count - 4 * a .first ≡ 4 * a .count = omega arith in
-    ap (λ (n : ℕ). take n (drop (4 * a .first) (a .t .now))) long
+    ap (λ (n : ℕ). take n (drop (4 * a .first) (a .table .now))) long
 
 pub part-spec : {M : Type 1} → statement M
 part-spec =

@@ -28,10 +28,10 @@ abbrev μ-loop : tie.MeasureT-loop
 
 -- the view that the run goes along
 abbrev view : tie.Start Inv-loop μ-loop → List Item
-view s = take (s .args .n) (items (s .args .t .now))
+view s = take (s .args .seen) (items (s .args .table .now))
 
-size : (s : tie.Start Inv-loop μ-loop) → length (view s) ≡ s .args .n
-size s = view-length (s .args .t .now) (s .args .n) (s .pre .0)
+size : (s : tie.Start Inv-loop μ-loop) → length (view s) ≡ s .args .seen
+size s = view-length (s .args .table .now) (s .args .seen) (s .pre .0)
 
 ascends : (s : tie.Start Inv-loop μ-loop) → Ascends 0 (view s)
 ascends s = ruled-ascends (view s) (s .pre .1)
@@ -49,7 +49,7 @@ inside e = omega (arith, size (entry (place e)))
 seen : (e : tie.After-item-at Inv-loop μ-loop) → getD (view (entry (place e))) (place e .loop .i) none ≡ e .item-at .result
 seen e =
     let s = entry (place e) in
-    view-item (s .args .t .now) (s .args .n) (s .pre .0) _ (omega arith) (e .item-at .ensures)
+    view-item (s .args .table .now) (s .args .seen) (s .pre .0) _ (omega arith) (e .item-at .ensures)
 
 narrow : (e : tie.After-item-at Inv-loop μ-loop) → Narrow (getD (view (entry (place e))) (place e .loop .i) none)
 narrow e =

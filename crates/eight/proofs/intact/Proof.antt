@@ -1,4 +1,4 @@
--- `intact` is the written test, with the CRC `of` the whole words first.
+-- `intact` is the written test, with the CRC that `of` gives.
 use mathlib.Core.Path.{sym, _∙_}
 use native.Mathlib.Omega.{arith}
 use lib.Seq.{length-take-le}

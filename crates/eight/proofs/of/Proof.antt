@@ -1,4 +1,4 @@
--- `of` is the written CRC: that of the whole words goes on over the rest to that of all bytes.
+-- `of` is the written CRC: that of the whole eights goes on over the rest to that of all bytes.
 use mathlib.Core.Path.{_≡_, _∙_}
 use mathlib.Core.List.{List}
 use Prim.Native.Nat.{ℕ, _-_}
@@ -9,8 +9,8 @@ use borrow.Author.Needs.{needs}
 use Rattle.eight.proofs.of.Statement.{statement}
 use Rattle.eight.proofs.of.Tie as tie
 
-words-requires : tie.Need-words-requires
-words-requires c κs = search needs
+whole-eights-requires : tie.Need-whole-eights-requires
+whole-eights-requires c κs = search needs
 
 mul-end : tie.Need-mul-end
 mul-end c = search needs
@@ -32,13 +32,13 @@ rest : (bs : List ℕ) (k : ℕ) → take (length bs - k) (drop k bs) ≡ drop k
 rest bs k = take-all (length bs - k) (drop k bs) (omega (arith, length-drop k bs))
 
 returns : tie.Need-returns
-returns c = (rw rest at (c .continued .ensures)) ∙ c .before .before .words .ensures
+returns c = (rw rest at (c .continued .ensures)) ∙ c .before .before .whole-eights .ensures
 
 pub of-spec : {M : Type 1} → statement M
 of-spec =
     tie.close
     (tie.spec
-    words-requires
+    whole-eights-requires
     mul-end
     sub-continued
     part-continued-start

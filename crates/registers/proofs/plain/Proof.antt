@@ -1,4 +1,4 @@
--- The first three are constants; the words of the two setup groups stand behind them, numbered through.
+-- The first three are constants; the words of the first setup group stand behind them, and then those of the second.
 use mathlib.Core.Path.{refl, sym, _∙_}
 use Prim.Native.Nat.{_≤_, zero-le}
 use Rattle.directory.proofs.ByKind.{number-past}

@@ -7,20 +7,20 @@ use borrow.Author.Needs.{needs}
 use Rattle.words.proofs.put_word.Statement.{statement}
 use Rattle.words.proofs.put_word.Tie as tie
 
-cast-buf : tie.Need-cast-buf
-cast-buf c = search needs
+cast-buffer : tie.Need-cast-buffer
+cast-buffer c = search needs
 
-slice-write-buf : tie.Need-slice-write-buf
-slice-write-buf c = search needs
+slice-write-buffer : tie.Need-slice-write-buffer
+slice-write-buffer c = search needs
 
-cast-buf-2 : tie.Need-cast-buf-2
-cast-buf-2 c = search needs
+cast-buffer-2 : tie.Need-cast-buffer-2
+cast-buffer-2 c = search needs
 
-add-buf : tie.Need-add-buf
-add-buf c = search needs
+add-buffer : tie.Need-add-buffer
+add-buffer c = search needs
 
-slice-write-buf-2 : tie.Need-slice-write-buf-2
-slice-write-buf-2 c = simp length-set (omega arith)
+slice-write-buffer-2 : tie.Need-slice-write-buffer-2
+slice-write-buffer-2 c = simp length-set (omega arith)
 
 same-length : tie.Need-same-length
 same-length c = search needs
@@ -31,4 +31,4 @@ returns c = rw add-one refl
 pub put-word-spec : {M : Type 1} → statement M
 put-word-spec =
     tie.close
-    (tie.spec cast-buf slice-write-buf cast-buf-2 add-buf slice-write-buf-2 same-length returns)
+    (tie.spec cast-buffer slice-write-buffer cast-buffer-2 add-buffer slice-write-buffer-2 same-length returns)

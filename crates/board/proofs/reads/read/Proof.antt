@@ -12,15 +12,15 @@ use Rattle.board.specs.Reads.{readReply}
 use Rattle.board.proofs.reads.read.Statement.{statement}
 use Rattle.board.proofs.reads.read.Tie as tie
 
-slice-aggregate-along : tie.Need-slice-aggregate-along
-slice-aggregate-along c = search needs
+slice-aggregate-with-table : tie.Need-slice-aggregate-with-table
+slice-aggregate-with-table c = search needs
 
 reach-requires : tie.Need-reach-requires
 reach-requires c κs = search needs
 
-along-requires : tie.Need-along-requires
+with-table-requires : tie.Need-with-table-requires
 unfolding directory flat
-along-requires c κs =
+with-table-requires c κs =
     let s = c .before .before .before .before .before in
     (own-lent _ (c .before .reach .ensures), s .pre)
 
@@ -31,9 +31,9 @@ returns : tie.Need-returns
 unfolding directory flat
 returns c =
     let s = c .before .before .before .before .before .before .before .before in
-    let e = c .before .before .along .ensures in
+    let e = c .before .before .with-table .ensures in
     let same = ap (λ (v : View). readReply v (shownOf (s .args .m)) (s .args .frame .now)) (own-view _ (c .before .before .before .before .reach .ensures)) in
     (e .0 ∙ ap length same, e .1 ∙ ap (sets (s .args .buffer .now) 0) same)
 
 pub read-spec : {M : Type 1} → statement M
-read-spec = tie.close (tie.spec slice-aggregate-along reach-requires along-requires same-length returns)
+read-spec = tie.close (tie.spec slice-aggregate-with-table reach-requires with-table-requires same-length returns)

@@ -29,16 +29,16 @@ returns c =
 held : (c : tie.Else1) → phasesOk (powerLimit (c .before .before .before .args .t)) (c .before .before .before .args .self) ≡ true
 held c = found (c .before) (not-false _ (c .if1 .left))
 
-three-requires : tie.Need-three-requires
-three-requires c κs = phases-held (c .before .before .before .args .t) (c .before .before .before .args .self) (held c)
+sum-requires : tie.Need-sum-requires
+sum-requires c κs = phases-held (c .before .before .before .args .t) (c .before .before .before .args .self) (held c)
 
 returns-2 : tie.Need-returns-2
 returns-2 c =
     let t = c .before in
     let s = t .before .before .before .before in
-    rw (t .three .ensures, t .before .before .before .power-limit .ensures) (sym (powers-by (s .args .t) (s .args .self) (held (t .before))))
+    rw (t .sum .ensures, t .before .before .before .power-limit .ensures) (sym (powers-by (s .args .t) (s .args .self) (held (t .before))))
 
 pub within-spec : {M : Type 1} → statement M
 within-spec =
     tie.close
-    (tie.spec power-limit-requires phases-within-requires returns three-requires returns-2)
+    (tie.spec power-limit-requires phases-within-requires returns sum-requires returns-2)

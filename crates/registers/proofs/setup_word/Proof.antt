@@ -3,8 +3,8 @@ use mathlib.Core.Path.{sym, _∙_}
 use lib.ListN.{List·getD-append, List·getD-eq-default}
 use Rattle.registers.proofs.Values.{second-at}
 use borrow.Author.Needs.{needs}
-use Rattle.registers.proofs.word_at.Statement.{statement}
-use Rattle.registers.proofs.word_at.Tie as tie
+use Rattle.registers.proofs.setup_word.Statement.{statement}
+use Rattle.registers.proofs.setup_word.Tie as tie
 
 mul-result : tie.Need-mul-result
 mul-result c = search needs
@@ -15,7 +15,7 @@ shared-slice-read-result c = search needs
 returns : tie.Need-returns
 returns c =
     let s = c .before .before in
-    sym (List·getD-append (s .args .first .now) (s .args .second .now) 0 (s .args .i) (c .before .if1 .taken))
+    sym (List·getD-append (s .args .standard .now) (s .args .output .now) 0 (s .args .i) (c .before .if1 .taken))
 
 sub-j : tie.Need-sub-j
 sub-j c = search needs
@@ -29,15 +29,15 @@ shared-slice-read-result-2 c = search needs
 returns-2 : tie.Need-returns-2
 returns-2 c =
     let s = c .before .before .before in
-    sym (second-at (s .args .first .now) (s .args .second .now) (s .args .i) (c .before .before .if1 .left))
+    sym (second-at (s .args .standard .now) (s .args .output .now) (s .args .i) (c .before .before .if1 .left))
 
 returns-3 : tie.Need-returns-3
 returns-3 c =
     let s = c .before .before in
-    sym (second-at (s .args .first .now) (s .args .second .now) (s .args .i) (c .before .if1 .left) ∙ List·getD-eq-default (s .args .second .now) 0 (c .if2 .left))
+    sym (second-at (s .args .standard .now) (s .args .output .now) (s .args .i) (c .before .if1 .left) ∙ List·getD-eq-default (s .args .output .now) 0 (c .if2 .left))
 
-pub word-at-spec : {M : Type 1} → statement M
-word-at-spec =
+pub setup-word-spec : {M : Type 1} → statement M
+setup-word-spec =
     tie.close
     (tie.spec
     mul-result

@@ -1,4 +1,4 @@
--- `word` goes down from the eighth byte: after it has passed k, its number is that of the 8 - k bytes from there on, and has room for k bytes more.
+-- `eight_at` goes down from the eighth byte: after it has passed k, its number is that of the 8 - k bytes from there on, and has room for k bytes more.
 use mathlib.Core.Path.{_≡_, refl, ap, _∙_}
 use mathlib.Core.List.{List}
 use Prim.Native.Nat.{ℕ, suc, _+_, _-_, _*_, _%_, _^_, _≤_, _<_}
@@ -9,8 +9,8 @@ use lib.ListN.{length, getD, take, drop}
 use lib.Pow.{pow-mono, shl-lt, shl-exact}
 use lib.Seq.{drop-cons}
 use Rattle.eight.specs.AtOnce.{number}
-use Rattle.eight.proofs.word.Statement.{statement}
-use Rattle.eight.proofs.word.Tie as tie
+use Rattle.eight.proofs.eight_at.Statement.{statement}
+use Rattle.eight.proofs.eight_at.Tie as tie
 
 abbrev Inv-loop : tie.InvT-loop
 Inv-loop bytes i w₀ k₀ w k = (k ≤ 8) × (w < 2 ^ (8 * (8 - k))) × (w ≡ number (take (8 - k) (drop (i + k) bytes)))
@@ -75,8 +75,8 @@ returns c =
     let z : l .k ≡ 0 = omega arith in
     l .inv .2 ∙ ap (λ (k : ℕ). number (take (8 - k) (drop (s .args .i + k) (s .args .bytes .now)))) z ∙ rw add-zero refl
 
-pub word-spec : {M : Type 1} → statement M
-word-spec =
+pub eight-at-spec : {M : Type 1} → statement M
+eight-at-spec =
     tie.close
     (tie.spec
     Inv-loop

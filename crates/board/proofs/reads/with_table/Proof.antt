@@ -14,12 +14,12 @@ use Rattle.modbus.proofs.Judged.{AskedPart, asked-part}
 use Rattle.registers.specs.Shown.{shownOf}
 use Rattle.board.specs.Reads.{itemsSent, dataReply, readBytes, readReply}
 use borrow.Author.Needs.{needs}
-use Rattle.board.proofs.reads.along.Statement.{statement}
-use Rattle.board.proofs.reads.along.Tie as tie
+use Rattle.board.proofs.reads.with_table.Statement.{statement}
+use Rattle.board.proofs.reads.with_table.Tie as tie
 
 -- what the table is seen as
 abbrev view : tie.Start → View
-view s = viewOf (s .args .t .now) (s .args .reach)
+view s = viewOf (s .args .table .now) (s .args .reach)
 
 -- the reply of a judgement is the reply of the read that is judged so
 replied : (v : View) (shown : ℕ → ℕ) (frame buffer : List ℕ) (span : Span) {k : ℕ} {after : List ℕ} → readIn v frame ≡ span → (k ≡ length (readBytes v shown frame span)) × (after ≡ sets buffer 0 (readBytes v shown frame span)) → (k ≡ length (readReply v shown frame)) × (after ≡ sets buffer 0 (readReply v shown frame))
@@ -46,8 +46,8 @@ start c = c .before .before .before .before .before .before .before
 found : (c : tie.After-known-told2) → readIn (view (start c)) (start c .args .frame .now) ≡ Items (c .before .first .given .0 .0) (c .before .first .given .0 .1 .0)
 found c = sym (c .before .before .before .read-in .ensures) ∙ c .before .first .given .1
 
-asked : (c : tie.After-known-told2) → AskedPart (start c .args .t .now) (start c .args .reach) (start c .args .frame .now) (c .before .first .given .0 .0) (c .before .first .given .0 .1 .0)
-asked c = asked-part (start c .args .t .now) (start c .args .reach) (start c .pre .0) (found c)
+asked : (c : tie.After-known-told2) → AskedPart (start c .args .table .now) (start c .args .reach) (start c .args .frame .now) (c .before .first .given .0 .0) (c .before .first .given .0 .1 .0)
+asked c = asked-part (start c .args .table .now) (start c .args .reach) (start c .pre .0) (found c)
 
 part-requires : tie.Need-part-requires
 part-requires c κs = asked c .inside
@@ -83,8 +83,8 @@ returns-2 c =
     let same = ap (λ (its : List Item). dataReply (s .args .frame .now) (itemsSent (shownOf (s .args .m)) its)) (ap items (p .part .ensures) ∙ asked (p .before) .holds) in
     replied (view s) (shownOf (s .args .m)) (s .args .frame .now) (s .args .buffer .now) (Items (g .0) (g .1 .0)) (found (p .before)) (e .0 ∙ ap length same, e .1 ∙ ap (sets (s .args .buffer .now) 0) same)
 
-pub along-spec : {M : Type 1} → statement M
-along-spec =
+pub with-table-spec : {M : Type 1} → statement M
+with-table-spec =
     tie.close
     (tie.spec
     read-in-requires

@@ -13,8 +13,8 @@ use Rattle.signed.proofs.Halves.{back}
 use Rattle.signed.proofs.Sums.{magnitude-sum, magnitude-fits}
 use Rattle.meter.specs.declared.samples.Powers.{Powers}
 use Rattle.meter.specs.Fits.{Held}
-use Rattle.meter.proofs.samples.Powers.three.Statement.{statement}
-use Rattle.meter.proofs.samples.Powers.three.Tie as tie
+use Rattle.meter.proofs.samples.Powers.sum.Statement.{statement}
+use Rattle.meter.proofs.samples.Powers.sum.Tie as tie
 
 two-fit : (p : Powers) → Held p → SFits w64 (p .l1 +ℤ p .l2)
 two-fit p h = magnitude-fits _ (omega (arith, h .one, h .two, magnitude-sum (p .l1) (p .l2)))
@@ -54,5 +54,5 @@ returns c =
     let read = read-three (s .args .self) (s .pre) (g .0 .1) (g .1 .0 .1) (g .1 .1 .0 .1) in
     c .of .ensures ∙ ap signedOf (ap (λ (z : ℤ). toZ w64 (ofZ w64 z)) read ∙ toZ-ofZ (three-fit (s .args .self) (s .pre)))
 
-pub three-spec : {M : Type 1} → statement M
-three-spec = tie.close (tie.spec add-of add-of-2 of-requires returns)
+pub sum-spec : {M : Type 1} → statement M
+sum-spec = tie.close (tie.spec add-of add-of-2 of-requires returns)

@@ -11,12 +11,12 @@ use Rattle.modbus.proofs.Judged.{AskedPart, asked-part}
 use Rattle.reading.specs.declared.Answer.{Answer}
 use Rattle.collector.specs.Collector.{onItems, replyOf}
 use borrow.Author.Needs.{needs}
-use Rattle.collector.proofs.along.Statement.{statement}
-use Rattle.collector.proofs.along.Tie as tie
+use Rattle.collector.proofs.with_table.Statement.{statement}
+use Rattle.collector.proofs.with_table.Tie as tie
 
 -- what the table is seen as
 abbrev view : tie.Start → View
-view s = viewOf (s .args .t .now) (s .args .reach)
+view s = viewOf (s .args .table .now) (s .args .reach)
 
 -- how a read that asks for items goes on
 abbrev going : tie.Start → List Item → Answer
@@ -44,8 +44,8 @@ start c = c .before .before .before .before .before .before .before
 found : (c : tie.After-known-told) → readIn (view (start c)) (start c .args .request .now) ≡ Items (c .before .span .given .0 .0) (c .before .span .given .0 .1 .0)
 found c = sym (c .before .before .before .read-in .ensures) ∙ c .before .span .given .1
 
-asked : (c : tie.After-known-told) → AskedPart (start c .args .t .now) (start c .args .reach) (start c .args .request .now) (c .before .span .given .0 .0) (c .before .span .given .0 .1 .0)
-asked c = asked-part (start c .args .t .now) (start c .args .reach) (start c .pre) (found c)
+asked : (c : tie.After-known-told) → AskedPart (start c .args .table .now) (start c .args .reach) (start c .args .request .now) (c .before .span .given .0 .0) (c .before .span .given .0 .1 .0)
+asked c = asked-part (start c .args .table .now) (start c .args .reach) (start c .pre) (found c)
 
 part-requires : tie.Need-part-requires
 part-requires c κs = asked c .inside
@@ -60,7 +60,7 @@ returns-2 c =
     let s = start (c .before .before) in
     c .replied .ensures ∙ ap (going s) (ap items (c .before .part .ensures) ∙ asked (c .before .before) .holds) ∙ ap (λ (span : Span). onItems (view s) span (going s)) (sym (found (c .before .before)))
 
-pub along-spec : {M : Type 1} → statement M
-along-spec =
+pub with-table-spec : {M : Type 1} → statement M
+with-table-spec =
     tie.close
     (tie.spec read-in-requires enum-known-span enum-told returns part-requires replied-requires returns-2)

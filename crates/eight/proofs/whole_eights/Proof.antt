@@ -1,4 +1,4 @@
--- `words` takes eight bytes a turn: the CRC so far, which x and p stand for, goes on over the bytes from i to that of them all.
+-- `whole_eights` takes eight bytes a turn: the CRC so far, which x and p stand for, goes on over the bytes from i to that of them all.
 use mathlib.Core.Path.{_≡_, refl, sym, ap, _∙_}
 use mathlib.Core.List.{List}
 use Prim.Native.Nat.{ℕ, _+_, _-_, _*_, _/_, _%_, _^_, _≤_, _<_}
@@ -8,8 +8,8 @@ use lib.ListN.{length, take, drop}
 use Rattle.crc.specs.Crc.{shifts, crcFrom, crcOf}
 use Rattle.eight.specs.AtOnce.{run, folded, spread, settled, number}
 use Rattle.eight.proofs.AtOnce.{eight, turn}
-use Rattle.eight.proofs.words.Statement.{statement}
-use Rattle.eight.proofs.words.Tie as tie
+use Rattle.eight.proofs.whole_eights.Statement.{statement}
+use Rattle.eight.proofs.whole_eights.Tie as tie
 
 abbrev Inv-loop : tie.InvT-loop
 Inv-loop bytes last x₀ p₀ i₀ x p i =
@@ -18,7 +18,7 @@ Inv-loop bytes last x₀ p₀ i₀ x p i =
 abbrev μ-loop : tie.MeasureT-loop
 μ-loop bytes last x₀ p₀ i₀ x p i = length bytes - i
 
--- what a turn does, and what is left when the words are done
+-- what a turn does, and what is left when the whole eights are done
 module _ (bs : List ℕ) where
   next : (i x p f s w : ℕ) → i + 8 ≤ length bs → x < 2 ^ 64 → w < 2 ^ 64 → f ≡ run folded x → s ≡ run spread f → w ≡ number (take 8 (drop i bs))
       → crcFrom (settled (bitXor s w) (bitXor p w)) (drop (i + 8) bs) ≡ crcFrom (settled x p) (drop i bs)
@@ -42,8 +42,8 @@ loop-holds : tie.Need-loop-holds Inv-loop μ-loop
 unfolding settled
 loop-holds c = (refl, omega arith, omega arith, refl)
 
-word-requires : tie.Need-word-requires Inv-loop μ-loop
-word-requires c κs = omega arith
+eight-at-requires : tie.Need-eight-at-requires Inv-loop μ-loop
+eight-at-requires c κs = omega arith
 
 folded-requires : tie.Need-folded-requires Inv-loop μ-loop
 folded-requires c κs = tt
@@ -60,12 +60,12 @@ loop-less c = omega arith
 loop-again : tie.Need-loop-again Inv-loop μ-loop
 loop-again c =
     let l = c .before .before .before .before .loop in
-    let w = c .before .before .word .result in
+    let w = c .before .before .eight-at .result in
     let s = c .spread .result in (
       omega arith,
       omega arith,
       xor-lt 64 s w (omega arith) (omega arith),
-      next _ (l .i) (l .x) (l .p) (c .before .folded .result) s w (omega arith) (l .inv .2) (omega arith) (c .before .folded .ensures) (c .spread .ensures) (c .before .before .word .ensures)
+      next _ (l .i) (l .x) (l .p) (c .before .folded .result) s w (omega arith) (l .inv .2) (omega arith) (c .before .folded .ensures) (c .spread .ensures) (c .before .before .eight-at .ensures)
           ∙ l .inv .3,
     )
 
@@ -77,8 +77,8 @@ returns-2 c =
     let l = c .before .before .loop in
     whole _ (c .settled .result) (settled (l .x) (l .p)) (l .i) (c .settled .ensures) (omega arith) (l .inv .3)
 
-pub words-spec : {M : Type 1} → statement M
-words-spec =
+pub whole-eights-spec : {M : Type 1} → statement M
+whole-eights-spec =
     tie.close
     (tie.spec
     Inv-loop
@@ -86,7 +86,7 @@ words-spec =
     returns
     sub-last
     loop-holds
-    word-requires
+    eight-at-requires
     folded-requires
     spread-requires
     add-i
