@@ -37,7 +37,7 @@ pub record Outcome : Type 0 where
   pub handled : Handled
   pub buffer : List ℕ
 
--- all that a contract allows of an answer, the record in it and the buffer: what is defined
+-- all that a contract allows: the answer, the record in it and the buffer are those of the definition
 pub record Allowed (defined : Outcome) (x : Handled) (buffer : List ℕ) : Type 0 where
   pub handled : x ≡ defined .handled
   pub bytes : buffer ≡ defined .buffer
@@ -84,6 +84,6 @@ boardIn v m frame buffer =
     -- 3. to 5.
     (obeyedIn v m frame buffer)))
 
--- and over paper 01's own
+-- what a meter with paper 01's own directory does with it
 abbrev pub boardOf : Meter → List ℕ → List ℕ → Outcome
 boardOf m frame buffer = boardIn own m frame buffer

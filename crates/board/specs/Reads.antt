@@ -12,7 +12,7 @@ use Rattle.modbus.specs.Frame.{addressOf, functionOf, wordNumber}
 use Rattle.modbus.specs.Read.{readIn}
 use Rattle.modbus.specs.Replies.{errorReply}
 
--- the words of some items, by what is shown of a quantity, one item behind the other: L two words, upper word first, W and B one
+-- the words of some items, one item behind the other, each with what is shown of its quantity: L two words, W and B one
 unfoldable pub itemsSent : (ℕ → ℕ) → List Item → List ℕ
 itemsSent shown [] = []
 itemsSent shown (it ∷ its) = sent (it .words) (shown (it .quantity)) ++ itemsSent shown its
@@ -21,11 +21,11 @@ itemsSent shown (it ∷ its) = sent (it .words) (shown (it .quantity)) ++ itemsS
 abbrev pub dataReply : List ℕ → List ℕ → List ℕ
 dataReply frame words = sealed (addressOf frame ∷ functionOf frame ∷ 2 * wordNumber frame ∷ words)
 
--- an error, or else data
+-- the reply to a read: an error, or else data
 abbrev pub readBytes : View → (ℕ → ℕ) → List ℕ → Span → List ℕ
 readBytes v shown frame (Error code) = errorReply frame code
 readBytes v shown frame (Items first count) = dataReply frame (itemsSent shown (runItems (v .seen) first count))
 
--- 4. as the read is judged over a view
+-- 4. the reply to a frame that is a read, as it is judged over a view
 abbrev pub readReply : View → (ℕ → ℕ) → List ℕ → List ℕ
 readReply v shown frame = readBytes v shown frame (readIn v frame)

@@ -25,7 +25,7 @@ use Rattle.reading.specs.declared.Answer.{Answer}
 use Rattle.reading.specs.declared.Answer.the-variants.{Error, Refused}
 use Rattle.reading.specs.Readings.{readingOf}
 
--- a meter of that own address, 1 to 255, hears the request, and as a read
+-- a read that a meter of that own address, 1 to 255, does not keep silent on
 unfoldable pub heard : List ℕ → Bool
 heard request = not (eqb (addressOf request) 0) && (isRead request && not (silence (addressOf request) request))
 
@@ -98,6 +98,6 @@ collectorIn v request reply r index =
     (cond (not (heard request)) (Refused NotARead)
     (onItems v (readIn v request) (λ its. replyOf (tOf r) request reply its index)))
 
--- and over paper 01's own
+-- what the collector gives of a meter with paper 01's own directory
 abbrev pub collectorOf : List ℕ → List ℕ → Ratios → ℕ → Answer
 collectorOf request reply r index = collectorIn own request reply r index

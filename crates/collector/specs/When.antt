@@ -1,5 +1,4 @@
--- Paper 01, "Refusal numbers", rows 3 and 7 to 14, and "How tight the contracts are": when each answer is given, what no reply can
--- be misread as, and that no two answers are allowed.
+-- Paper 01, "Refusal numbers", rows 3 and 7 to 14: when each answer is given, and what no reply can be misread as.
 use mathlib.Core.Path.{_≡_}
 use mathlib.Core.Logic.{_↔_, _⊎_}
 use Prim.Native.Nat.{ℕ, _+_, _*_, _≤_, _<_}
@@ -49,14 +48,14 @@ module _ (v : View) where
     pub ratios : ratiosOk r ≡ true
     pub asks : Asks request
 
-  -- 8 to 10 are passed
+  -- 8 to 10 are passed as well
   pub record Sound (request reply : List ℕ) (r : Ratios) : Type 0 where
     pub asked : Asked request r
     pub long : lengthWrong reply ≡ false
     pub whole : intact reply ≡ true
     pub own : foreign request reply ≡ false
 
-  -- and 11 is passed, with 0x03
+  -- 11 is passed as well, by a reply of function 0x03
   pub record Fits (request reply : List ℕ) (r : Ratios) : Type 0 where
     pub sound : Sound request reply r
     pub words : isReadError reply ≡ false
@@ -66,7 +65,7 @@ module _ (v : View) where
   abbrev pub askedBy : {request reply : List ℕ} {r : Ratios} → Fits request reply r → Asks request
   askedBy fits = fits .sound .asked .asks
 
-  -- and 12 is passed
+  -- 12 is passed as well
   pub record Holds (request reply : List ℕ) (r : Ratios) (index : ℕ) : Type 0 where
     pub fits : Fits request reply r
     pub below : index < askedBy fits .count
@@ -79,7 +78,7 @@ module _ (v : View) where
   abbrev pub valueIn : {request : List ℕ} → Asks request → List ℕ → ℕ → ℕ
   valueIn asks reply index = valueAt (itemAt asks index .words) reply (placeOf (runItems (v .seen) (asks .first) (asks .count)) index)
 
-  -- 10: address or function of another
+  -- 10: reply address differs, or function neither 0x03 nor 0x83
   abbrev pub Foreign : List ℕ → List ℕ → Ratios → Type 0
   Foreign request reply r =
       Asked request r × (lengthWrong reply ≡ false) × (intact reply ≡ true) × (foreign request reply ≡ true)

@@ -26,7 +26,7 @@ use Rattle.meter.specs.Meters.{newOf}
 use Rattle.demands.specs.Histories.{Event, afterAll, exactOf, anyTaken}
 use Rattle.demands.specs.RoundTrip.{replyTo}
 
--- so many Wh are never above an exact energy, and below it by less than one step
+-- a figure in Wh is never above an exact energy, and below it by less than one step
 pub record Bounds (exact step wh : ℕ) : Type 0 where
   pub above : wh * 360000 ≤ exact
   pub below : exact < (wh + step) * 360000
@@ -47,7 +47,7 @@ module _ (v : View) where
   abbrev pub sooner : History → Meter
   sooner h = afterAll v (newOf (h .address) (h .ratios) .meter) (h .events)
 
-  -- and when the second comes
+  -- the meter when the second comes
   abbrev pub later : History → Meter
   later h = afterAll v (sooner h) (h .between)
 

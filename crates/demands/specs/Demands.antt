@@ -69,7 +69,7 @@ pub record Demand1 : Type 0 where
   pub replies : EveryReply NotMisread
   pub records : Every AfterEvents
 
--- STATEMENT: what both ends go by: the numbers of answers, CRC, words, directory, lines
+-- STATEMENT: what board and collector share: the numbers of answers, CRC, words, directory, lines
 pub record Ground : Type 0 where
   pub reasons : OneReasonEach
   pub answers : OneAnswerEach
@@ -114,8 +114,7 @@ pub record Readings : Type 0 where
   pub typed : Every TypesKept
   pub always : Every ReadsAlways
 
--- STATEMENT: demand 2, with the ground of both halves, and what is said of every call: its outcome is determined, and the paper's
--- examples come out
+-- STATEMENT: demand 2, with what both halves rest on; each call's outcome is determined, and the paper's examples come out
 pub record Demand2 : Type 0 where
   pub ground : Ground
   pub replies : Replies

@@ -31,7 +31,7 @@ pub record Heeds (m : Meter) (frame buffer : List ℕ) : Type 0 where
   pub room : 256 ≤ length buffer
   pub heard : silence (m .given .address) frame ≡ false
 
--- and the frame is for this meter alone
+-- the meter heeds a frame that is for this meter alone
 pub record Answers (m : Meter) (frame buffer : List ℕ) : Type 0 where
   pub heeds : Heeds m frame buffer
   pub own : addressOf frame ≡ 0 → ⊥
@@ -40,11 +40,11 @@ pub record Answers (m : Meter) (frame buffer : List ℕ) : Type 0 where
 abbrev pub WriteErrs : ErrorCode → Meter → List ℕ → Type 0
 WriteErrs code m frame = (isWrite frame ≡ true) × (writtenOf m frame .verdict ≡ Wrong code)
 
--- 2. Silence; and address 0 has it always
+-- 2. silence; to address 0 it is kept always
 abbrev pub Quiet : Meter → List ℕ → Type 0
 Quiet m frame = (silence (m .given .address) frame ≡ true) ⊎ (addressOf frame ≡ 0)
 
--- a write that is legal
+-- a legal write
 abbrev pub Stores : Meter → List ℕ → Type 0
 Stores m frame = (isWrite frame ≡ true) × (writtenOf m frame .verdict ≡ Good)
 

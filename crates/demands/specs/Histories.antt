@@ -1,4 +1,4 @@
--- Demand 3's ground: a meter's history, of samples and frames, accepted and refused, and the exact energy of its accepted samples.
+-- What demand 3 speaks of: a meter's history, of samples and frames, accepted and refused, and the exact energy of its accepted samples.
 use mathlib.Core.Path.{_≡_}
 use Prim.Native.Nat.{ℕ, _+_, _<_}
 use mathlib.Core.Bool.{Bool, true, false, _||_}
@@ -20,12 +20,12 @@ pub data Event : Type 0 where
   sample : Sample → Event
   frame : List ℕ → List ℕ → Event
 
--- what an event adds to an energy: a sample what it carries, where it is accepted; a frame nothing
+-- what an event adds to an energy: an accepted sample what it carries; a refused one and a frame nothing
 abbrev pub eventAdds : ℕ → Meter → Event → ℕ
 eventAdds e m (Event.sample s) = addedBy e m s
 eventAdds e m (Event.frame bytes buffer) = 0
 
--- an accepted sample
+-- the event is a sample, and accepted
 abbrev pub isTaken : Meter → Event → Bool
 isTaken m (Event.sample s) = isAccepted (afterOf m s .answer)
 isTaken m (Event.frame bytes buffer) = false
@@ -35,7 +35,7 @@ abbrev pub EventTyped : Event → Type 0
 EventTyped (Event.sample s) = SampleTyped s
 EventTyped (Event.frame bytes buffer) = (i : ℕ) → getD bytes i 0 < 256
 
--- and so each of some
+-- all of some events are so
 pub data AllTyped : List Event → Type 0 where
   none : AllTyped []
   more : {x : Event} {xs : List Event} → EventTyped x → AllTyped xs → AllTyped (x ∷ xs)
@@ -63,7 +63,7 @@ module _ (v : View) where
   anyTaken m [] = false
   anyTaken m (x ∷ xs) = isTaken m x || anyTaken (afterEvent m x) xs
 
-  -- STATEMENT: a new meter is as a program holds it, and such events leave it so
+  -- STATEMENT: a new meter is as a program holds it, and stays so after events as a program hands them over
   pub record TypesKept : Type 0 where
     pub new : (address : ℕ) (r : Ratios) → Typed (newOf address r .meter)
     pub event : (m : Meter) (x : Event) → Typed m → EventTyped x → Typed (afterEvent m x)

@@ -1,5 +1,5 @@
--- Nothing is claimed of nothing: what `Demand3` and its like ask for can be had, for every accepted new meter, any events, every
--- item and every own address.
+-- What `Demand3` and the other statements over histories ask for can be had, for every accepted new meter, any events, every item and
+-- every own address: so they are not claims about nothing.
 use mathlib.Core.Path.{_≡_}
 use Prim.Native.Nat.{ℕ, _+_, _≤_, _<_}
 use mathlib.Core.Bool.{false}

@@ -57,7 +57,8 @@ module _ (v : View) where
   Keeps address r e figure = (xs : List Event) → Bounds (exactOf v e (newOf address r .meter) xs) (stepOf (tOf r)) (figure xs)
 
   -- our own board and collector: after the events, register and wrap are polled, read and joined
-  abbrev pub ours : (address : ℕ) → Ratios → (e : ℕ) → Poll v address (quantity energyCount e) → Poll v address (quantity wrap e) → List Event → ℕ
+  abbrev pub ours :
+      (address : ℕ) → Ratios → (e : ℕ) → Poll v address (quantity energyCount e) → Poll v address (quantity wrap e) → List Event → ℕ
   ours address r e register wrapped xs =
       joinedWh r
       (collected v r (afterAll v (newOf address r .meter) xs) register)

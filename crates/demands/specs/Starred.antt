@@ -22,7 +22,7 @@ pub record Example : Type 0 where
   pub given : List ℕ
   pub says : List ℕ
 
--- the two beside each other
+-- an example from its two parts
 abbrev example : List ℕ → List ℕ → Example
 example given says = record { given = given; says = says }
 
@@ -50,7 +50,7 @@ factors f = sent 1 (factorHundredths (f .negative) (f .magnitude)) ++ sent 2 (fa
 abbrev asked : List ℕ
 asked = 0x01 ∷ 0x03 ∷ 0x03 ∷ 0x01 ∷ 0x00 ∷ 0x02 ∷ []
 
--- and its answer
+-- the answer to it, without its CRC
 abbrev answer : List ℕ
 answer = 0x01 ∷ 0x03 ∷ 0x04 ∷ 0x00 ∷ 0x01 ∷ 0x86 ∷ 0xA0 ∷ []
 

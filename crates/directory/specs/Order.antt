@@ -12,7 +12,7 @@ unfoldable pub ascends : ℕ → List Item → Bool
 ascends from [] = true
 ascends from (it ∷ its) = leb from (it .start) && (ltb 0 (it .fills) && ascends (ends it) its)
 
--- a test of each item
+-- every item passes a test
 unfoldable pub every : (Item → Bool) → List Item → Bool
 every test [] = true
 every test (it ∷ its) = test it && every test its
@@ -21,7 +21,7 @@ every test (it ∷ its) = test it && every test its
 abbrev pub narrow : Item → Bool
 narrow it = leb 1 (it .words) && leb (it .words) 2
 
--- a directory, as the functions over any directory ask for one
+-- what the search for an item and the run of a read rest on
 abbrev pub ruled : List Item → Bool
 ruled its = ascends 0 its && every narrow its
 

@@ -18,7 +18,7 @@ unfoldable pub findIn : List Item → ℕ → ℕ → Found
 findIn [] address i = Nothing
 findIn (it ∷ its) address i = cond (eqb (it .start) address) (At i) (findIn its address (i + 1))
 
--- goes on with the item that was found; no item starts there: error 02
+-- no item starts there: error 02; else it goes on with the item that was found
 abbrev pub onItem : List Item → Found → (ℕ → Item → Span) → Span
 onItem dir Nothing go = Error Address
 onItem dir (At i) go = go i (getD dir i none)

@@ -19,11 +19,11 @@ pub record View : Type 0 where
 abbrev pub passes : View → Bool
 passes v = tested (v .seen) && (leb 2 (v .most) && leb (5 + 2 * v .most) 256)
 
--- a flat table that is lent, as far as it is seen
+-- the view that a flat table gives, of which the first items may be read
 abbrev pub viewOf : List ℕ → Reach → View
 viewOf t reach = record { seen = take (reach .items) (items t); most = reach .most }
 
--- what the functions over any table ask for: it holds the items that are seen, and they pass
+-- what functions ask of a table that they are lent: it holds the items that may be read, and these pass the tests
 pub record Lent (t : List ℕ) (reach : Reach) : Type 0 where
   pub holds : 4 * reach .items ≤ length t
   pub good : T (passes (viewOf t reach))

@@ -1,4 +1,4 @@
--- Not the paper's, and nothing to believe: how the code takes eight bytes at once, named for its private functions. That it
+-- Not the paper's, and nothing to believe: how the code takes eight bytes at once, for the contracts of its private functions. That it
 -- comes to the written rule is the contract of `of`. The CRC is a remainder by t^16 + t^15 + t^2 + 1, which is
 -- (t + 1)(t^15 + t + 1): so it is known by its remainder by t^15 + t + 1, for which t^30 is t^2 + 1 and t^60 is t^4 + 1,
 -- and by its parity. In a number the highest power is the lowest bit.
@@ -21,15 +21,15 @@ run (low k f) x = run f x % 2 ^ k
 run (xor f g) x = bitXor (run f x) (run g x)
 run (on f g) x = run f (run g x)
 
--- for the remainder, 28 shifts: a bit may stand 28 and 30 places on instead
+-- 28 shifts, for the remainder: each of the lower 32 bits stays and is put two places up as well, since t^30 is t^2 + 1
 abbrev pub folded : Linear
 folded = xor (xor (shl 4 (shr 32 it)) (low 32 it)) (shl 2 (low 32 it))
 
--- for the remainder, 36 shifts of 36 bits: a bit may stand 56 and 60 places on instead
+-- 36 shifts of 36 bits, for the remainder: each bit is put 20 and 24 places up instead, since t^60 is t^4 + 1
 abbrev pub spread : Linear
 spread = xor (shl 20 it) (shl 24 it)
 
--- for the remainder, 36 shifts of 36 bits, to 16: 22 shifts by t^30, then 14 by t^15, which is t + 1
+-- 36 shifts of 36 bits, for the remainder, down to 16: 22 since t^30 is t^2 + 1, then 14 since t^15 is t + 1
 abbrev pub narrowed : Linear
 narrowed =
     on (xor (xor (shl 1 (shr 15 it)) (low 15 it)) (shl 1 (low 15 it)))

@@ -17,7 +17,7 @@ use Rattle.meter.specs.declared.energies.Energy.{Energy}
 use Rattle.meter.specs.declared.energies.Energies.{Energies}
 use Rattle.meter.specs.declared.energies.Counters.{Counters}
 use Rattle.meter.specs.declared.Meter.{Meter}
-use Rattle.meter.specs.Samples.{threeOf, inForce, factorOf, phasesOk, powersOk, sampleOk}
+use Rattle.meter.specs.Samples.{sumOf, inForce, factorOf, phasesOk, powersOk, sampleOk}
 use Rattle.meter.specs.Energies.{energyOk, energiesOk, countersOk, ZeroToNeither}
 use Rattle.meter.specs.Groups.{setupOk}
 use Rattle.meter.specs.Meters.{meterT, givenOk, meterOk}
@@ -49,16 +49,16 @@ phases-held t p h =
 -- phases of powers within the limit are within it
 module _ (t : ℕ) (p : Powers) (h : powersOk t p ≡ true) where
   pub powers-phases : phasesOk (powerLimit t) p ≡ true
-  powers-phases = and-eq-true-iff (phasesOk (powerLimit t) p) (leb (threeOf p .magnitude) (powerLimit t)) .0 h .0
+  powers-phases = and-eq-true-iff (phasesOk (powerLimit t) p) (leb (sumOf p .magnitude) (powerLimit t)) .0 h .0
 
   -- and so is the sum in force
   pub in-force-most : inForce p .magnitude ≤ powerLimit t
   unfolding inForce
-  in-force-most = leb-true _ _ (and-eq-true-iff (phasesOk (powerLimit t) p) (leb (threeOf p .magnitude) (powerLimit t)) .0 h .1)
+  in-force-most = leb-true _ _ (and-eq-true-iff (phasesOk (powerLimit t) p) (leb (sumOf p .magnitude) (powerLimit t)) .0 h .1)
 
 -- the test of phases and sum, by what was found of the phases
-pub powers-by : (t : ℕ) (p : Powers) {found : Bool} → phasesOk (powerLimit t) p ≡ found → powersOk t p ≡ (found && leb (threeOf p .magnitude) (powerLimit t))
-powers-by t p h = ap (λ (b : Bool). b && leb (threeOf p .magnitude) (powerLimit t)) h
+pub powers-by : (t : ℕ) (p : Powers) {found : Bool} → phasesOk (powerLimit t) p ≡ found → powersOk t p ≡ (found && leb (sumOf p .magnitude) (powerLimit t))
+powers-by t p h = ap (λ (b : Bool). b && leb (sumOf p .magnitude) (powerLimit t)) h
 
 pub record SampleParts (t : ℕ) (s : Sample) : Type 0 where
   pub p : powersOk t (s .p) ≡ true

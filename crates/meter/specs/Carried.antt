@@ -15,15 +15,15 @@ use Rattle.meter.specs.After.{afterOf}
 abbrev pub carriesOf : Sample → List ℕ
 carriesOf s = aboveOf (inForce (s .p)) ∷ belowOf (inForce (s .p)) ∷ aboveOf (inForce (s .q)) ∷ belowOf (inForce (s .q)) ∷ []
 
--- what it carries for the one of a number
+-- what it carries for the energy of number e, counted from 0 in the paper's order
 abbrev pub carriesFor : ℕ → Sample → ℕ
 carriesFor e s = getD (carriesOf s) e 0
 
--- an answer is no refusal
+-- an answer is not a refusal
 abbrev pub isAccepted : Answer → Bool
 isAccepted Accepted = true
 isAccepted (Refused reason) = false
 
--- what a sample adds to it: what it carries, where it is accepted
+-- what a sample adds to an energy: what it carries if it is accepted, else nothing
 abbrev pub addedBy : ℕ → Meter → Sample → ℕ
 addedBy e m s = cond (isAccepted (afterOf m s .answer)) (carriesFor e s) 0

@@ -14,11 +14,11 @@ use Rattle.meter.specs.declared.energies.Counters.{Counters}
 abbrev pub energyOk : Energy → Bool
 energyOk e = leb (e .wh .0) topWh && leb (e .remainder) 359999
 
--- and so each of two
+-- the energies of both directions are within these limits
 abbrev pub energiesOk : Energies → Bool
 energiesOk es = energyOk (es .positive) && energyOk (es .negative)
 
--- and so each of the four
+-- all four are
 abbrev pub countersOk : Counters → Bool
 countersOk c = energiesOk (c .active) && energiesOk (c .reactive)
 
@@ -26,7 +26,7 @@ countersOk c = energiesOk (c .active) && energiesOk (c .reactive)
 abbrev pub noEnergy : Energy
 noEnergy = record { wh = record { 0 = 0 }; remainder = 0 }
 
--- two of them
+-- the energies of both directions, 0
 abbrev pub noEnergies : Energies
 noEnergies = record { positive = noEnergy; negative = noEnergy }
 
@@ -43,7 +43,7 @@ abbrev pub plusOf : Energy → ℕ → Energy
 plusOf e power =
     record { wh = record { 0 = e .wh .0 + (e .remainder + power) / 360000 }; remainder = (e .remainder + power) % 360000 }
 
--- a positive power is added to the one, the magnitude of a negative one to the other, zero to neither
+-- a positive power is added to the positive energy, the magnitude of a negative one to the negative energy, zero to neither
 abbrev pub withPower : Energies → Signed → Energies
 withPower es power = record { positive = plusOf (es .positive) (aboveOf power); negative = plusOf (es .negative) (belowOf power) }
 
@@ -55,7 +55,7 @@ withPowers c p q = record { active = withPower (c .active) p; reactive = withPow
 abbrev pub withinTop : Energies → Bool
 withinTop es = leb (es .positive .wh .0) topWh && leb (es .negative .wh .0) topWh
 
--- none of the four is
+-- none of the four energies is past its top
 abbrev pub countersWithinTop : Counters → Bool
 countersWithinTop c = withinTop (c .active) && withinTop (c .reactive)
 

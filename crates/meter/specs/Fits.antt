@@ -1,4 +1,5 @@
--- Paper 01, "The meter's record": power limit and energy top, as leaves ask for them so that their sums fit. No public call asks any of it.
+-- Paper 01, "The meter's record": the power limit and the top of an energy, as private functions ask for them so that their sums fit 64
+-- bits. No public call asks any of it.
 use Prim.Native.Nat.{_≤_}
 use lib.IntN.{natAbs}
 use Rattle.signed.specs.declared.Signed.{Signed}

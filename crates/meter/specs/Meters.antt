@@ -48,7 +48,7 @@ energiesOf m =
     m .counters .reactive .positive ∷ m .counters .reactive .negative ∷
     []
 
--- the one of a number
+-- the energy of number e, counted from 0 in that order
 abbrev pub energyAt : ℕ → Meter → Energy
 energyAt e m = getD (energiesOf m) e noEnergy
 

@@ -11,13 +11,13 @@ use Rattle.meter.specs.declared.samples.Powers.{Powers}
 use Rattle.meter.specs.declared.samples.Factor.{Factor}
 use Rattle.meter.specs.declared.samples.Sample.{Sample}
 
--- 3-phase P and Q are the sums of the phases: the sum of all three phases, which the limits go by
-abbrev pub threeOf : Powers → Signed
-threeOf p = signedOf ((p .l1 +ℤ p .l2) +ℤ p .l3)
+-- 3-phase P and Q are the sums of the phases; the power limit is for this sum
+abbrev pub sumOf : Powers → Signed
+sumOf p = signedOf ((p .l1 +ℤ p .l2) +ℤ p .l3)
 
--- the sum in force, which everything shown and counted goes by: of all three
+-- the 3-phase power that is shown and counted: the sum of all three phases
 unfoldable pub inForce : Powers → Signed
-inForce p = threeOf p
+inForce p = sumOf p
 
 -- power factor, signed thousandths
 abbrev pub factorOf : Factor → Signed
@@ -29,7 +29,7 @@ phasesOk limit p = leb (natAbs (p .l1)) limit && leb (natAbs (p .l2)) limit && l
 
 -- power limit for each phase, each sum (in magnitude)
 abbrev pub powersOk : ℕ → Powers → Bool
-powersOk t p = phasesOk (powerLimit t) p && leb (threeOf p .magnitude) (powerLimit t)
+powersOk t p = phasesOk (powerLimit t) p && leb (sumOf p .magnitude) (powerLimit t)
 
 -- a sample at a ratio of t tenths: power limit for P, Q and S; power factor -1,000 to 1,000; sector 0 to 2; sequence 1 or 2;
 -- voltages, currents and frequency any number of their width

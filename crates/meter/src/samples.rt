@@ -1,7 +1,7 @@
 // A second's measurements, as the metering chip hands them over (paper 01, "The meter's record").
 ghost use mathlib.Core.Path.{_≡_};
 ghost use Rattle.meter.specs.Fits.{Held};
-ghost use Rattle.meter.specs.Samples.{threeOf, inForce, factorOf, phasesOk, powersOk, sampleOk, noSample};
+ghost use Rattle.meter.specs.Samples.{sumOf, inForce, factorOf, phasesOk, powersOk, sampleOk, noSample};
 use crate::Meter;
 use signed::Signed;
 
@@ -25,7 +25,7 @@ impl Powers {
     // The sum of all three phases, which the power limit is for. Phases are added nowhere else.
     fn sum(self) -> Signed
         requires { ⌜ Held self ⌝ }
-        ensures { λ r. ⌜ r ≡ threeOf self ⌝ }
+        ensures { λ r. ⌜ r ≡ sumOf self ⌝ }
     {
         Signed::of(self.l1 + self.l2 + self.l3)
     }

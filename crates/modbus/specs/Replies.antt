@@ -11,7 +11,7 @@ use Rattle.modbus.specs.Frame.{addressOf, functionOf}
 abbrev pub errorBytes : List ℕ → ℕ → List ℕ
 errorBytes frame code = sealed (addressOf frame ∷ (functionOf frame + 0x80) ∷ code ∷ [])
 
--- its code is the number of what is wrong
+-- the error reply of an error code
 abbrev pub errorReply : List ℕ → ErrorCode → List ℕ
 errorReply frame code = errorBytes frame (errorNumber code)
 

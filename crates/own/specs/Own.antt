@@ -7,6 +7,6 @@ use Rattle.own.specs.Table.{directory}
 abbrev pub own : View
 own = record { seen = directory; most = 120 }
 
--- how far the constant table of the code is seen, for that
+-- how much of the code's constant table that is
 abbrev pub ownReach : Reach
 ownReach = record { items = 142; most = own .most }

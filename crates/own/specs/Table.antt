@@ -81,7 +81,7 @@ wordBlocks =
     wordW 0x1540 wrap posEa ∷ wordW 0x1541 wrap posEr ∷ wordW 0x1542 wrap negEa ∷ wordW 0x1543 wrap negEr ∷
     []
 
--- so many numbers, from one on
+-- n numbers, from k on
 abbrev upFrom : ℕ → ℕ → List ℕ
 upFrom k zero = []
 upFrom k (suc n) = k ∷ upFrom (k + 1) n

@@ -20,11 +20,11 @@ use Rattle.reading.specs.declared.Answer.the-variants.{Reading}
 use Rattle.reading.specs.Told.{kindOf, told}
 use Rattle.reading.specs.Readings.{readingOf}
 
--- the kind of an item's quantity
+-- an item shows a quantity of this kind
 abbrev pub isKind : ℕ → Item → Bool
 isKind k it = eqb (it .quantity / 64) k
 
--- one of some tests holds
+-- one of the tests holds
 unfoldable pub oneOf : List Bool → Bool
 oneOf [] = false
 oneOf (test ∷ tests) = test || oneOf tests

@@ -33,7 +33,7 @@ when possible q = cond possible (Reading q) impossible
 abbrev pub signedIn : ℕ → ℕ → Signed
 signedIn n v = record { negative = negativeIn n v; magnitude = magnitudeIn n v }
 
--- so many times a signed value
+-- n times a signed value
 abbrev pub times : ℕ → Signed → Signed
 times n s = record { negative = s .negative; magnitude = s .magnitude * n }
 

@@ -22,7 +22,7 @@ powersOf m =
     signedOf (m .latest .q .l1) ∷ signedOf (m .latest .q .l2) ∷ signedOf (m .latest .q .l3) ∷
     []
 
--- the one of a number; none beyond
+-- the power of a number, counted from 0 in that order; 0 beyond
 unfoldable pub powerAt : Meter → ℕ → Signed
 powerAt m which = getD (powersOf m) which (record { negative = false; magnitude = 0 })
 

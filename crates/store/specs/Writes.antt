@@ -23,15 +23,15 @@ abbrev pub verdictTold : Verdict → List ℕ
 verdictTold Good = 0 ∷ []
 verdictTold (Wrong code) = errorBy (errorNumber code)
 
--- the group of 16 words (0x2000)
+-- a write to the group of 16 words (0x2000)
 abbrev pub toStandard : List ℕ → Bool
 toStandard frame = eqb (startOf frame) 0x2000
 
--- the group of 24 words (0x2200)
+-- a write to the group of 24 words (0x2200)
 abbrev pub toOutput : List ℕ → Bool
 toOutput frame = eqb (startOf frame) 0x2200
 
--- the write goes to a group
+-- a write to one of the groups
 abbrev pub toGroup : List ℕ → Bool
 toGroup frame = toStandard frame || toOutput frame
 
@@ -39,11 +39,11 @@ toGroup frame = toStandard frame || toOutput frame
 abbrev pub groupWords : List ℕ → ℕ
 groupWords frame = cond (toStandard frame) 16 24
 
--- the group is replaced whole
+-- the setup with the group replaced whole
 abbrev pub replacedIn : Setup → List ℕ → Setup
 replacedIn s frame = cond (toStandard frame) (withStandard s (writeValues frame)) (withOutput s (writeValues frame))
 
--- and so stored, and nothing else
+-- the meter with that group stored, and nothing else changed
 abbrev pub storedOf : Meter → List ℕ → Meter
 storedOf m frame = withSetup m (replacedIn (m .setup) frame)
 

@@ -13,7 +13,7 @@ twos n negative magnitude = cond negative ((65536 ^ n - magnitude) % 65536 ^ n) 
 abbrev pub negativeIn : ℕ → ℕ → Bool
 negativeIn n v = leb (65536 ^ n / 2) v
 
--- and its magnitude is what they lack to the full
+-- the magnitude of what n words hold: a negative value is 65536^n more than it is
 abbrev pub magnitudeIn : ℕ → ℕ → ℕ
 magnitudeIn n v = cond (negativeIn n v) (65536 ^ n - v) v
 
