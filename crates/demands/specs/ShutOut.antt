@@ -16,7 +16,7 @@ use Rattle.reading.specs.declared.Answer.{Answer}
 use Rattle.reading.specs.Told.{told}
 use Rattle.meter.specs.declared.Answer.the-variants.{Accepted}
 use Rattle.meter.specs.declared.samples.Sample.{Sample}
-use Rattle.meter.specs.Samples.{sampleOk, noSample}
+use Rattle.meter.specs.Samples.{sampleOk, sampleOf}
 use Rattle.meter.specs.Meters.{newOf}
 use Rattle.meter.specs.After.{afterOf}
 use Rattle.demands.specs.Histories.{Event, afterAll, exactOf}
@@ -36,18 +36,7 @@ bareRatios = record { kta = 1; ktv = 10 }
 
 -- a second of 36 kW on one phase: 10 Wh
 abbrev pub tenWh : Sample
-tenWh =
-    record {
-      voltages = noSample .voltages;
-      currents = noSample .currents;
-      p = record { l1 = pos 3600000; l2 = pos 0; l3 = pos 0 };
-      q = noSample .q;
-      s = 0;
-      factor = noSample .factor;
-      sector = 0;
-      sequence = 1;
-      frequency = 0;
-    }
+tenWh = sampleOf (record { l1 = pos 3600000; l2 = pos 0; l3 = pos 0 })
 
 -- ---- over a view: the directory and the most words that reads go by
 

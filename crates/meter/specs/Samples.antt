@@ -46,13 +46,13 @@ sampleOk t s =
 abbrev noPowers : Powers
 noPowers = record { l1 = pos 0; l2 = pos 0; l3 = pos 0 }
 
--- the sample of a new meter: 0 except sequence 1
-abbrev pub noSample : Sample
-noSample =
+-- a sample of nothing but P, with sequence 1
+abbrev pub sampleOf : Powers → Sample
+sampleOf p =
     record {
       voltages = replicate 6 0;
       currents = replicate 4 0;
-      p = noPowers;
+      p = p;
       q = noPowers;
       s = 0;
       factor = record { 0 = pos 0 };
@@ -60,3 +60,7 @@ noSample =
       sequence = 1;
       frequency = 0;
     }
+
+-- the sample of a new meter: 0 except sequence 1
+abbrev pub noSample : Sample
+noSample = sampleOf noPowers
