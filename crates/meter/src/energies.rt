@@ -76,7 +76,7 @@ pub struct Counters {
 
 impl Counters {
     // The counters of a new meter: every energy and every remainder 0.
-    pub(crate) fn none() -> Counters
+    pub(crate) fn blank() -> Counters
         ensures { λ r. ⌜ r ≡ noCounters ⌝ }
     {
         let zero = Energy {

@@ -11,7 +11,7 @@ pub struct Setup {
 
 impl Setup {
     // The setup of a new meter: every word 0.
-    pub(crate) fn none() -> Setup
+    pub(crate) fn blank() -> Setup
         ensures { λ r. ⌜ r ≡ noSetup ⌝ }
     {
         Setup {

@@ -77,9 +77,9 @@ impl Meter {
     {
         Meter {
             given: Given { address, ratios },
-            counters: Counters::none(),
-            latest: Sample::none(),
-            setup: Setup::none(),
+            counters: Counters::blank(),
+            latest: Sample::blank(),
+            setup: Setup::blank(),
         }
     }
 

@@ -86,7 +86,7 @@ pub struct Sample {
 
 impl Sample {
     // The sample of a new meter: 0, except sequence 1.
-    pub(crate) fn none() -> Sample
+    pub(crate) fn blank() -> Sample
         ensures { λ r. ⌜ r ≡ noSample ⌝ }
     {
         let idle = Powers {

@@ -28,8 +28,8 @@ pub fn write(m: Meter, frame: &[u8]) -> Written
         return wrong(m, ErrorCode::Data);
     }
     match words::word_at(frame, modbus::START_AT) {
-        0x2000 => standard(m, frame),
-        0x2200 => output(m, frame),
+        0x2000 => write_standard(m, frame),
+        0x2200 => write_output(m, frame),
         _ => wrong(m, ErrorCode::Address),
     }
 }
@@ -44,7 +44,7 @@ fn wrong(m: Meter, code: ErrorCode) -> Written
 }
 
 // A write to the 16 words from 0x2000 on.
-fn standard(m: Meter, frame: &[u8]) -> Written
+fn write_standard(m: Meter, frame: &[u8]) -> Written
     requires { ⌜ (writeShaped (now frame) ≡ true) × (toStandard (now frame) ≡ true) ⌝ }
     ensures { λ r. ⌜ r ≡ writtenOf m (now (frame .entry)) ⌝ }
 {
@@ -73,7 +73,7 @@ fn with_standard(m: Meter, group: [u16; 16]) -> Meter
 }
 
 // A write to the 24 words from 0x2200 on.
-fn output(m: Meter, frame: &[u8]) -> Written
+fn write_output(m: Meter, frame: &[u8]) -> Written
     requires { ⌜ (writeShaped (now frame) ≡ true) × (toStandard (now frame) ≡ false) × (toOutput (now frame) ≡ true) ⌝ }
     ensures { λ r. ⌜ r ≡ writtenOf m (now (frame .entry)) ⌝ }
 {

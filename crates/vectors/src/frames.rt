@@ -1,7 +1,7 @@
 // The documents' frames: what a meter answers whose record gives the printed answer, which the file `stdout` has.
+use board::Meter;
+use board::Ratios;
 use board::Reply;
-use meter::Meter;
-use ratio::Ratios;
 
 const REPLY_ROOM: usize = 256;
 

@@ -2,7 +2,7 @@
 mod frames;
 mod meters;
 
-use ratio::Ratios;
+use board::Ratios;
 
 // A value in one word and in two, and the two read back.
 fn sent(v: u32) {

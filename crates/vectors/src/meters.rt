@@ -1,13 +1,13 @@
 // The meter's examples: samples, what its registers then show, and what it refuses.
+use board::Answer;
+use board::Answered;
+use board::Factor;
+use board::Meter;
+use board::Powers;
+use board::Ratios;
 use board::Reply;
+use board::Sample;
 use directory::quantity::*;
-use meter::Answer;
-use meter::Answered;
-use meter::Meter;
-use meter::samples::Factor;
-use meter::samples::Powers;
-use meter::samples::Sample;
-use ratio::Ratios;
 
 pub fn examples() {
     three_phases();

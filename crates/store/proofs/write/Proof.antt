@@ -27,11 +27,11 @@ shaped c = sym (c .before .write-shaped .ensures) ∙ not-false _ (c .if1 .left)
 word-at-requires : tie.Need-word-at-requires
 word-at-requires c κs = omega (arith, shaped-length (c .before .before .before .args .frame .now) (shaped (c)) .0)
 
-standard-requires : tie.Need-standard-requires
-standard-requires c κs = (shaped (c .before .before), eq-eqb _ _ (sym (c .before .word-at .ensures) ∙ c .match .keys1))
+write-standard-requires : tie.Need-write-standard-requires
+write-standard-requires c κs = (shaped (c .before .before), eq-eqb _ _ (sym (c .before .word-at .ensures) ∙ c .match .keys1))
 
-output-requires : tie.Need-output-requires
-output-requires c κs =
+write-output-requires : tie.Need-write-output-requires
+write-output-requires c κs =
     let start = sym (c .before .word-at .ensures) ∙ c .match .keys2 in
     (shaped (c .before .before), ap (λ (a : ℕ). eqb a 0x2000) start, eq-eqb _ _ start)
 
@@ -59,8 +59,8 @@ write-spec =
     wrong-requires
     returns
     word-at-requires
-    standard-requires
-    output-requires
+    write-standard-requires
+    write-output-requires
     wrong-requires-2
     returns-2
     returns-3

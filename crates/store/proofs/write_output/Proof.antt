@@ -14,8 +14,8 @@ use Rattle.meter.specs.Groups.{withOutput}
 use Rattle.meter.specs.Meters.{withSetup}
 use Rattle.store.specs.declared.Verdict.the-variants.{Good}
 use Rattle.store.proofs.Stored.{not-24, bad-24, good-24}
-use Rattle.store.proofs.output.Statement.{statement}
-use Rattle.store.proofs.output.Tie as tie
+use Rattle.store.proofs.write_output.Statement.{statement}
+use Rattle.store.proofs.write_output.Tie as tie
 
 word-at-requires : tie.Need-word-at-requires
 word-at-requires c κs = omega (arith, shaped-length (c .before .args .frame .now) (c .before .pre .0) .0)
@@ -72,8 +72,8 @@ returns-3 c =
     let good = in-range (c .before .before) (not-false _ (c .before .if2 .left)) in
     ap (λ (m : Meter). record { verdict = Good; meter = m }) next ∙ good-24 (s .args .m) (s .args .frame .now) (s .pre .0) (s .pre .1) (s .pre .2) n good
 
-pub output-spec : {M : Type 1} → statement M
-output-spec =
+pub write-output-spec : {M : Type 1} → statement M
+write-output-spec =
     tie.close
     (tie.spec
     word-at-requires

@@ -14,8 +14,8 @@ use Rattle.meter.specs.Groups.{withStandard}
 use Rattle.meter.specs.Meters.{withSetup}
 use Rattle.store.specs.declared.Verdict.the-variants.{Good}
 use Rattle.store.proofs.Stored.{not-16, bad-16, good-16}
-use Rattle.store.proofs.standard.Statement.{statement}
-use Rattle.store.proofs.standard.Tie as tie
+use Rattle.store.proofs.write_standard.Statement.{statement}
+use Rattle.store.proofs.write_standard.Tie as tie
 
 word-at-requires : tie.Need-word-at-requires
 word-at-requires c κs = omega (arith, shaped-length (c .before .args .frame .now) (c .before .pre .0) .0)
@@ -72,8 +72,8 @@ returns-3 c =
     let good = in-range (c .before .before) (not-false _ (c .before .if2 .left)) in
     ap (λ (m : Meter). record { verdict = Good; meter = m }) next ∙ good-16 (s .args .m) (s .args .frame .now) (s .pre .0) (s .pre .1) n good
 
-pub standard-spec : {M : Type 1} → statement M
-standard-spec =
+pub write-standard-spec : {M : Type 1} → statement M
+write-standard-spec =
     tie.close
     (tie.spec
     word-at-requires
