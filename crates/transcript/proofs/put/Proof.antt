@@ -46,7 +46,10 @@ loop-less : tie.Need-loop-less Inv-loop μ-loop
 loop-less c = omega arith
 
 loop-again : tie.Need-loop-again Inv-loop μ-loop
-loop-again c = ?
+loop-again c =
+    let a = c .before .before in
+    let s = a .before in
+    (omega arith, simp length-set (a .loop .inv .1), turn (a .loop .text) (s .args .characters .now) (s .args .at) (a .loop .i) (omega arith) ∙ a .loop .inv .2)
 
 add-result : tie.Need-add-result Inv-loop μ-loop
 add-result c = omega arith
@@ -55,7 +58,10 @@ same-length : tie.Need-same-length Inv-loop μ-loop
 same-length c = c .before .loop .inv .1
 
 returns : tie.Need-returns Inv-loop μ-loop
-returns c = ?
+returns c =
+    let a = c .before in
+    let s = a .before in
+    (omega arith, sym (done (a .loop .text) (s .args .characters .now) (s .args .at) (a .loop .i) (omega arith)) ∙ a .loop .inv .2)
 
 pub put-spec : {M : Type 1} → statement M
 put-spec =
