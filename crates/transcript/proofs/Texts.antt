@@ -63,6 +63,11 @@ module _ (input : List ℕ) (at stop : ℕ) (inside : at < length input) (ends :
   unfolding transcriptOf
   next-text m = ap (transcriptOf m) next-line
 
+  pub next-length : (m : Meter) → length (transcriptOf m (linesOf (drop at input))) ≡ length (lineText m line) + 1 + length (transcriptOf (meterAfter m line) (linesOf (drop (stop + 1) input)))
+  next-length m =
+      let left = transcriptOf (meterAfter m line) (linesOf (drop (stop + 1) input)) in
+      omega (arith, ap length (next-text m), length-append (lineText m line) (0x0A ∷ left))
+
 -- ---- the room that it takes
 
 -- the bytes that a line is of the input, one at the least
