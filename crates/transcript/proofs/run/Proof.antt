@@ -142,8 +142,7 @@ loop-again : tie.Need-loop-again Inv-loop μ-loop
 loop-again c =
     let a = c .before .before .before in
     let p = found a in
-    let inv = loop p .loop .inv in
-    (
+    let inv = loop p .loop .inv in (
       omega (arith, stops p),
       simp length-set (omega (arith, same-room a, inv .1)),
       omega (arith, a .answer .ensures .0 .1, ap length (same-left a), left-length p, inv .2),
