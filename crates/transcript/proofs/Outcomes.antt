@@ -1,9 +1,9 @@
 -- What holds of each outcome that a frame may have holds of the one that it has; so a meter within limits stays so and refuses nothing, a frame that
 -- is cut where it is too long already is answered as it was, and a reply is short beside the line that asks for it.
-use mathlib.Core.Path.{_≡_, refl, sym, ap, _∙_}
+use mathlib.Core.Path.{_≡_, refl, sym, _∙_}
 use mathlib.Core.Bool.{Bool, true, false, _&&_, not, cond, false≢true}
 use mathlib.Core.List.{List, _∷_}
-use Prim.Native.Nat.{ℕ, _+_, _-_, _*_, _≤_, _<_}
+use Prim.Native.Nat.{ℕ, _-_, _*_, _≤_, _<_}
 use native.Mathlib.Nat.{min-le-left}
 use native.Mathlib.Omega.{arith}
 use lib.Dec.{leb, ltb, eqb}
@@ -21,7 +21,7 @@ use Rattle.own.specs.Own.{own}
 use Rattle.own.proofs.Rules.{own-passes}
 use Rattle.modbus.specs.Frame.{addressOf, functionOf, wordNumber, silence, isRead, isWrite}
 use Rattle.modbus.specs.Read.{readIn}
-use Rattle.modbus.specs.Replies.{errorReply, echoReply}
+use Rattle.modbus.specs.Replies.{errorReply}
 use Rattle.modbus.proofs.Frames.{by-length, heeded}
 use Rattle.modbus.proofs.Judged.{legal-read}
 use Rattle.meter.specs.declared.Meter.{Meter}

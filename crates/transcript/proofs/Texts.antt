@@ -8,7 +8,7 @@ use native.Mathlib.Omega.{arith}
 use lib.Dec.{eqb}
 use lib.ListN.{length, getD, take, drop, replicate, length-append, length-take, length-drop}
 use lib.Seq.{sets, drop-cons, drop-drop, take-at}
-use Rattle.lines.specs.Lines.{lineLength, lineOk, bytesOf, textOf}
+use Rattle.lines.specs.Lines.{lineLength, lineOk, bytesOf}
 use Rattle.lines.proofs.Laws.{bytes-length}
 use Rattle.lines.proofs.Texts.{text-length}
 use Rattle.modbus.proofs.Stores.{sets-front}

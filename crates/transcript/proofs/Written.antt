@@ -1,5 +1,5 @@
 -- The parts of the statement: the text fits since 32 characters a byte are enough for each line; bench's meter is an accepted one.
-use mathlib.Core.Path.{_≡_, refl, sym, ap, _∙_}
+use mathlib.Core.Path.{_≡_, refl}
 use mathlib.Core.Bool.{Bool, true, false, cond}
 use mathlib.Core.List.{List}
 use Prim.Native.Nat.{ℕ, _*_, _≤_}
@@ -10,10 +10,10 @@ use borrow.Author.Tests.{le-leb}
 use Rattle.refusal.specs.declared.Refusal.{Refusal}
 use Rattle.lines.specs.Lines.{lineOk, bytesOf}
 use Rattle.meter.specs.declared.Meter.{Meter}
-use Rattle.meter.specs.Meters.{meterOk, newOf}
+use Rattle.meter.specs.Meters.{meterOk}
 use Rattle.meter.proofs.Answers.{new-answers, made-within}
 use Rattle.board.specs.declared.Reply.the-variants.{Refused}
-use Rattle.transcript.specs.Transcript.{linesOf, outcomeOf, meterAfter, benchMeter, benchText, roomFor, Transcribed, TextWritten}
+use Rattle.transcript.specs.Transcript.{outcomeOf, meterAfter, benchMeter, benchText, roomFor, Transcribed, TextWritten}
 use Rattle.transcript.proofs.Outcomes.{stays-within, never-refuses}
 use Rattle.transcript.proofs.Texts.{front, input-most}
 
@@ -45,4 +45,4 @@ unfolding outcomeOf
 answered m line reason h = never-refuses m (bytesOf line) (replicate 256 0) h (omega arith) reason
 
 pub text-written : TextWritten
-text-written = record { fits = fits; whole = whole; new = new; within = within; answered = answered }
+text-written = record { fits = fits; whole = whole; answered = answered; within = within; new = new }

@@ -72,13 +72,13 @@ pub record Transcribed (input before : List ℕ) (answer : ℕ) (after : List �
   pub told : answer ≡ cond (roomFor input (length before)) (length (benchText input)) 0
   pub bytes : after ≡ cond (roomFor input (length before)) (sets before 0 (benchText input)) before
 
--- STATEMENT: the text fits its room, and then stands there whole; bench's meter is within limits, stays so, and never refuses
+-- STATEMENT: the text fits its room, and stands there whole; a meter within limits refuses nothing and stays so, as bench's is
 pub record TextWritten : Type 0 where
   pub fits : (input : List ℕ) → length (benchText input) ≤ 32 * length input
   pub whole :
       (input before : List ℕ) (answer : ℕ) (after : List ℕ) → 32 * length input ≤ length before →
       Transcribed input before answer after → take answer after ≡ benchText input
-  pub new : meterOk benchMeter ≡ true
-  pub within : (m : Meter) (line : List ℕ) → meterOk m ≡ true → meterOk (meterAfter m line) ≡ true
   pub answered :
       (m : Meter) (line : List ℕ) (reason : Refusal) → meterOk m ≡ true → outcomeOf m line .handled .reply ≡ Refused reason → ⊥
+  pub within : (m : Meter) (line : List ℕ) → meterOk m ≡ true → meterOk (meterAfter m line) ≡ true
+  pub new : meterOk benchMeter ≡ true

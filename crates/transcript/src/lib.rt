@@ -3,7 +3,6 @@ ghost use mathlib.Core.Path.{_≡_};
 ghost use Prim.Native.Nat.{ℕ, _+_, _*_, _≤_, _<_};
 ghost use lib.ListN.{length};
 ghost use lib.Seq.{sets};
-ghost use Rattle.lines.specs.Lines.{textOf};
 ghost use Rattle.board.specs.declared.Reply.the-variants.{Sent};
 ghost use Rattle.transcript.specs.Transcript.{replyText, lineText, meterAfter, benchText, Transcribed};
 use board::Reply;

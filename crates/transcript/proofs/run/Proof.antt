@@ -1,9 +1,9 @@
 -- The text of the lines that are left, stored where the text ends so far, makes the whole one; it has room, since the whole text has.
-use mathlib.Core.Path.{_≡_, refl, sym, ap, _∙_}
+use mathlib.Core.Path.{_≡_, refl, ap, _∙_}
 use mathlib.Core.List.{List, [], _∷_, _++_}
-use Prim.Native.Nat.{ℕ, suc, _+_, _-_, _*_, _≤_, _<_}
+use Prim.Native.Nat.{ℕ, suc, _+_, _-_, _≤_, _<_}
 use native.Mathlib.Omega.{arith}
-use lib.ListN.{length, take, drop, set, length-append, length-set, drop-of-length-le}
+use lib.ListN.{length, take, drop, set, length-set, drop-of-length-le}
 use lib.Seq.{sets, length-sets}
 use Rattle.transcript.specs.Transcript.{linesOf, transcriptOf, lineText, meterAfter, benchMeter, benchText}
 use Rattle.meter.specs.declared.Meter.{Meter}
@@ -13,7 +13,6 @@ use Rattle.words.proofs.Laws.{sets-append}
 use Rattle.transcript.proofs.Texts.{line-ends, next-text, next-length}
 use Rattle.transcript.proofs.Written.{text-written}
 use borrow.Author.Needs.{needs}
-use Rattle.lines.specs.Lines.{lineLength}
 use Rattle.transcript.proofs.run.Statement.{statement}
 use Rattle.transcript.proofs.run.Tie as tie
 
