@@ -18,6 +18,7 @@ use Rattle.meter.proofs.Parts.{zero-to-neither}
 use Rattle.meter.proofs.Accepts.{new-answers, sample-answers, setup-idle}
 use Rattle.store.proofs.Verdicts.{write-when}
 use Rattle.registers.proofs.Widths.{every-case, setup-unseen}
+use Rattle.transcript.proofs.Written.{text-written}
 use Rattle.demands.specs.Demands.{Demand1, Ground, Replies, Readings, Demand2, Demands}
 use Rattle.demands.proofs.Frames as board
 use Rattle.demands.proofs.Polls.{with-data, round-trip}
@@ -86,7 +87,7 @@ readings = record {
 }
 
 pub demand-2 : Demand2
-demand-2 = record { ground = ground; replies = replies; readings = readings; determined = determined; examples = examples-hold }
+demand-2 = record { ground = ground; replies = replies; readings = readings; determined = determined; examples = examples-hold; bench = text-written }
 
 pub demands : Demands
 demands = record { one = demand-1; two = demand-2; three = demand-3; polled = every-item-polled; not-empty = not-empty; tight = shut-out }

@@ -12,6 +12,7 @@ determined = record {
   put = λ before n x y p q h k. (h .answer ∙ sym (k .answer), h .bytes ∙ sym (k .bytes));
   line = λ line before x y p q h k. (h .told ∙ sym (k .told), h .bytes ∙ sym (k .bytes));
   text = λ frame before x y p q h k. (h .told ∙ sym (k .told), h .bytes ∙ sym (k .bytes));
+  transcript = λ input before x y p q h k. (h .told ∙ sym (k .told), h .bytes ∙ sym (k .bytes));
 }
 
 pub numbered : Numbered

@@ -32,6 +32,7 @@ use Rattle.meter.specs.Energies.{ZeroToNeither}
 use Rattle.meter.specs.Meters.{meterOk}
 use Rattle.meter.specs.Accepts.{NewAnswers, SampleAnswers, SetupIdle}
 use Rattle.store.specs.Writes.{WriteWhen}
+use Rattle.transcript.specs.Transcript.{TextWritten}
 use Rattle.registers.specs.Typed.{Typed, EveryCase, SetupUnseen}
 use Rattle.demands.specs.Frames.{FramesWhen, Obeys, Untouched, RepliesSealed, BufferUnseen}
 use Rattle.demands.specs.RoundTrip.{Meets, WithData, RoundTrip}
@@ -114,13 +115,15 @@ pub record Readings : Type 0 where
   pub typed : Every TypesKept
   pub always : Every ReadsAlways
 
--- STATEMENT: demand 2, with what both halves rest on; each call's outcome is determined, and the paper's examples come out
+-- STATEMENT: demand 2, with what both halves rest on; each call's outcome is determined, the paper's examples come out, and `bench`
+-- writes the text that the paper asks for
 pub record Demand2 : Type 0 where
   pub ground : Ground
   pub replies : Replies
   pub readings : Readings
   pub determined : Determined
   pub examples : ExamplesHold
+  pub bench : TextWritten
 
 -- STATEMENT: the three; demand 3: one energy, read in any of the three places, is never above the exact energy of the samples
 -- accepted so far, and below it by less than one step. None of it is empty, and it leaves no room for the wrong meters that the

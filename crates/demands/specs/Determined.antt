@@ -1,6 +1,6 @@
 -- Paper 01, "How tight the contracts are": for every input each public call has its answer, new record and buffer bytes determined, refused
 -- calls too. The contract of most calls is one equation: the outcome, record and all, is a definition of the arguments, and two
--- outcomes that equal the same are equal. Four calls promise more than one thing. Each names all that its contract allows in one
+-- outcomes that equal the same are equal. Five calls promise more than one thing. Each names all that its contract allows in one
 -- predicate, which its `ensures` cites and which is spoken of here: a promise taken out of it leaves two outcomes allowed.
 use mathlib.Core.Path.{_≡_}
 use Prim.Native.Nat.{ℕ}
@@ -19,8 +19,10 @@ use Rattle.store.specs.Writes.{verdictTold}
 use Rattle.board.specs.declared.Reply.{Reply}
 use Rattle.board.specs.declared.Handled.{Handled}
 use Rattle.board.specs.Board.{replyTold, Allowed, boardOf}
+use Rattle.transcript.specs.Transcript.{Transcribed}
 
--- STATEMENT: any two outcomes that a contract allows are equal: of `board::handle`, `crc::put`, `lines::frame` and `lines::text`
+-- STATEMENT: any two outcomes that a contract allows are equal: of `board::handle`, `crc::put`, `lines::frame`, `lines::text` and
+-- `transcript::of`
 pub record Determined : Type 0 where
   pub frame :
       (m : Meter) (frame b : List ℕ) (x y : Handled) (p q : List ℕ) → Allowed (boardOf m frame b) x p →
@@ -28,6 +30,9 @@ pub record Determined : Type 0 where
   pub put : (before : List ℕ) (n : ℕ) (x y : Bool) (p q : List ℕ) → Put before n x p → Put before n y q → (x ≡ y) × (p ≡ q)
   pub line : (line before : List ℕ) (x y : Line) (p q : List ℕ) → FrameRead line before x p → FrameRead line before y q → (x ≡ y) × (p ≡ q)
   pub text : (frame before : List ℕ) (x y : ℕ) (p q : List ℕ) → TextPut frame before x p → TextPut frame before y q → (x ≡ y) × (p ≡ q)
+  pub transcript :
+      (input before : List ℕ) (x y : ℕ) (p q : List ℕ) → Transcribed input before x p → Transcribed input before y q →
+      (x ≡ y) × (p ≡ q)
 
 -- STATEMENT: the paper's numbers and values of an answer name one answer, so that a promise of them is a promise of the answer; of
 -- a collector's answer it is `OneAnswerEach`

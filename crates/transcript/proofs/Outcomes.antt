@@ -33,7 +33,7 @@ use Rattle.store.specs.Writes.{writtenOf}
 use Rattle.store.proofs.Verdicts.{write-within}
 use Rattle.board.specs.declared.Reply.the-variants.{Silent, Sent, Refused}
 use Rattle.board.specs.Reads.{itemsSent, readBytes, readReply}
-use Rattle.board.specs.Board.{Outcome, refusedOf, silentOf, sentOf, replyOf, writeReply, boardIn, boardOf}
+use Rattle.board.specs.Board.{Outcome, refusedOf, silentOf, sentOf, sentOrSilent, writeReply, boardIn, boardOf}
 use Rattle.board.proofs.Sent.{length-items}
 
 either : (P : Outcome → Type 0) (t : Bool) (x y : Outcome) → (t ≡ true → P x) → (t ≡ false → P y) → P (cond t x y)
@@ -52,7 +52,7 @@ module _ (P : Outcome → Type 0) (m : Meter) (frame b : List ℕ) where
     written : 4 ≤ length frame → P (sentOf (writeReply frame (writtenOf m frame .verdict)) (writtenOf m frame .meter) b)
 
   -- address 0 has silence
-  replied : (bytes : List ℕ) (n : Meter) → P (silentOf n b) → P (sentOf bytes n b) → P (replyOf frame bytes n b)
+  replied : (bytes : List ℕ) (n : Meter) → P (silentOf n b) → P (sentOf bytes n b) → P (sentOrSilent frame bytes n b)
   replied bytes n h k = either P (eqb (addressOf frame) 0) _ _ (λ e. h) (λ e. k)
 
   each : Each → P (boardOf m frame b)
