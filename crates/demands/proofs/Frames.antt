@@ -19,6 +19,7 @@ use Rattle.directory.specs.Views.{View, passes}
 use Rattle.modbus.specs.Frame.{silence, isRead, isWrite}
 use Rattle.modbus.specs.Replies.{errorReply}
 use Rattle.modbus.proofs.Judged.{read-when}
+use Rattle.modbus.proofs.Stores.{sets-taken}
 use Rattle.meter.specs.declared.Meter.{Meter}
 use Rattle.meter.specs.Meters.{meterOk}
 use Rattle.board.specs.declared.Reply.{Reply}
@@ -32,7 +33,7 @@ use Rattle.store.proofs.Verdicts.{write-when, write-within}
 use Rattle.demands.proofs.Gives.{Gives, Case, case}
 use Rattle.demands.proofs.Gives.Gives.{other, misread, shows, miswritten, stores}
 use Rattle.demands.proofs.Gives.Case.{out, short, unheard, for-all, for-one}
-use Rattle.demands.proofs.Replies.{gives-sent, gives-quiet, gives-long, gives-whole, sent-front, sent-beyond, sent-length, sent-same, Faults, faults}
+use Rattle.demands.proofs.Replies.{gives-sent, gives-quiet, gives-long, gives-whole, sent-beyond, sent-length, sent-same, Faults, faults}
 use Rattle.demands.proofs.Replies.Faults.{unknown, bad-read, bad-write}
 
 -- ---- answers are told apart by their numbers
@@ -225,7 +226,7 @@ module _ (v : View) (good : T (passes v)) where
       within-buffer = let room = s .answers .heeds .room in omega (arith, gives-long v good m frame (s .bytes) (s .next) (s .gives))
 
       front : take k (boardIn v m frame b .buffer) ≡ s .bytes
-      front = rw (s .after, ← s .long) (sent-front (s .bytes) b within-buffer)
+      front = rw (s .after, ← s .long) (sets-taken b (s .bytes) within-buffer)
 
       beyond : drop k (boardIn v m frame b .buffer) ≡ drop k b
       beyond = rw (s .after, ← s .long) (sent-beyond (s .bytes) b within-buffer)

@@ -28,6 +28,7 @@ use Rattle.directory.proofs.Views.{passes-tested, passes-ruled, passes-room}
 use Rattle.modbus.specs.Frame.{addressOf, functionOf, wordNumber, isRead, isWrite, silence}
 use Rattle.modbus.specs.Replies.{errorBytes, errorReply, echoReply}
 use Rattle.modbus.proofs.Frames.{shaped-length}
+use Rattle.modbus.proofs.Stores.{sets-taken}
 use Rattle.modbus.proofs.Judged.{legal-read}
 use Rattle.meter.specs.declared.Meter.{Meter}
 use Rattle.meter.specs.Meters.{meterT}
@@ -45,7 +46,7 @@ use Rattle.board.proofs.Sent.{length-items}
 use Rattle.demands.proofs.Gives.{Gives, Case, case}
 use Rattle.demands.proofs.Gives.Gives.{other, misread, shows, miswritten, stores}
 use Rattle.demands.proofs.Gives.Case.{out, short, unheard, for-all, for-one}
-use Rattle.demands.proofs.Replies.{gives-long, gives-whole, sent-front, echo-function}
+use Rattle.demands.proofs.Replies.{gives-long, gives-whole, echo-function}
 use Rattle.demands.proofs.Frames.{obeys}
 use Rattle.collector.specs.Collector.{heard, isReadError, placeOf, collectorIn}
 use Rattle.collector.specs.When.{Asks, Asked, Fits, itemAt, valueIn, ReplyGives}
@@ -110,7 +111,7 @@ module _ (v : View) (good : T (passes v)) where
     pub replies : replyTo v m request b ≡ reply
     replies =
         let o = obeys v good m request b .reads (a .first) (a .count) answers (h .read) (a .items) in
-        ap (λ (x : Outcome). replyIn (x .handled .reply) (x .buffer)) o ∙ sent-front reply b (omega (arith, gives-long v good m request reply m gives, meets .room))
+        ap (λ (x : Outcome). replyIn (x .handled .reply) (x .buffer)) o ∙ sets-taken b reply (omega (arith, gives-long v good m request reply m gives, meets .room))
 
     -- ---- as the collector judges it
 
@@ -246,7 +247,7 @@ module _ (v : View) (good : T (passes v)) where
     from-reply h (for-all bytes n w z g e) = no-read (sym (ap (λ (x : Outcome). isRead (replyIn (x .handled .reply) (x .buffer))) e) ∙ h)
     from-reply h (for-one bytes n w g e) =
         let said : replyTo v m request b ≡ bytes =
-        ap (λ (x : Outcome). replyIn (x .handled .reply) (x .buffer)) e ∙ sent-front bytes b (omega (arith, gives-long v good m request bytes n g, meets .room)) in
+        ap (λ (x : Outcome). replyIn (x .handled .reply) (x .buffer)) e ∙ sets-taken b bytes (omega (arith, gives-long v good m request bytes n g, meets .room)) in
         from-data bytes n w (sym (ap isRead said) ∙ h) g
 
     pub with-data : WithData v m request b

@@ -7,7 +7,7 @@ use Prim.Native.Nat.{ℕ, _+_, _*_, _≤_}
 use native.Mathlib.Omega.{arith}
 use lib.Dec.{T}
 use lib.ListN.{length, getD, take, drop, List·getD-append}
-use lib.Seq.{sets, take-at, drop-at, getD-take, length-take-le}
+use lib.Seq.{sets, drop-at, getD-take, length-take-le}
 use borrow.Author.Tests.{eq-eqb, ne-eqb, le-ltb}
 use Rattle.refusal.specs.declared.ErrorCode.{ErrorCode}
 use Rattle.refusal.specs.declared.ErrorCode.the-variants.{Function}
@@ -21,7 +21,7 @@ use Rattle.directory.specs.Views.{View, passes}
 use Rattle.modbus.specs.Frame.{addressOf, functionOf, wordNumber, isRead, isWrite}
 use Rattle.modbus.specs.Replies.{errorReply, echoReply}
 use Rattle.modbus.proofs.Frames.{shaped-length}
-use Rattle.modbus.proofs.Stores.{sets-front}
+use Rattle.modbus.proofs.Stores.{sets-front, sets-taken}
 use Rattle.meter.specs.declared.Meter.{Meter}
 use Rattle.registers.specs.Shown.{shownOf}
 use Rattle.board.specs.declared.Reply.the-variants.{Sent}
@@ -46,9 +46,6 @@ error-sealed frame code bytes e = record { before = addressOf frame ∷ (functio
 
 -- ---- in the buffer
 
-pub sent-front : (bytes b : List ℕ) → length bytes ≤ length b → take (length bytes) (sets b 0 bytes) ≡ bytes
-sent-front bytes b h = ap (take (length bytes)) (sets-front b bytes h) ∙ take-at bytes _ (length bytes) refl
-
 pub sent-beyond : (bytes b : List ℕ) → length bytes ≤ length b → drop (length bytes) (sets b 0 bytes) ≡ drop (length bytes) b
 sent-beyond bytes b h = ap (drop (length bytes)) (sets-front b bytes h) ∙ drop-at bytes _ (length bytes) refl
 
@@ -58,7 +55,7 @@ sent-length e = cc
 pub sent-same : (x y : List ℕ) (m n : Meter) (b : List ℕ) → length x ≤ length b → length y ≤ length b → sentOf x m b ≡ sentOf y n b → x ≡ y
 sent-same x y m n b h k e =
     let long : length x ≡ length y = sent-length (ap (λ (o : Outcome). o .handled .reply) e) in
-    sym (sent-front x b h) ∙ ap₂ (λ (j : ℕ) (l : List ℕ). take j l) long (ap (λ (o : Outcome). o .buffer) e) ∙ sent-front y b k
+    sym (sets-taken b x h) ∙ ap₂ (λ (j : ℕ) (l : List ℕ). take j l) long (ap (λ (o : Outcome). o .buffer) e) ∙ sets-taken b y k
 
 -- ---- an echo has the function of the frame
 

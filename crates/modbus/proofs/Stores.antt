@@ -14,6 +14,10 @@ use Rattle.crc.proofs.Laws.{length-sealed, put-parts}
 pub sets-front : (l a : List ℕ) → length a ≤ length l → sets l 0 a ≡ a ++ drop (length a) l
 sets-front l a h = simp zero-add at (sets-eq a l 0 (rw zero-add h))
 
+-- and at its start
+pub sets-taken : (l a : List ℕ) → length a ≤ length l → take (length a) (sets l 0 a) ≡ a
+sets-taken l a h = ap (take (length a)) (sets-front l a h) ∙ take-at a _ (length a) refl
+
 -- all of a buffer
 pub sets-whole : (b bs : List ℕ) → length bs ≡ length b → sets b 0 bs ≡ bs
 sets-whole b bs e = sets-front b bs (omega arith) ∙ rw (drop-of-length-le b {i = length bs} (omega arith)) (append-nil bs)

@@ -1,26 +1,21 @@
 -- The input is taken off a line a turn, and the text with it. A line is answered with 32 characters at the most for each byte that it is
 -- of the input, its line feed among them, since a reply is short beside its line; so the whole text is.
-use mathlib.Core.Path.{_≡_, refl, ap, _∙_}
+use mathlib.Core.Path.{_≡_, refl, ap}
 use mathlib.Core.Bool.{Bool, true, false, cond}
 use mathlib.Core.List.{List, [], _∷_, _++_}
 use Prim.Native.Nat.{ℕ, suc, _+_, _-_, _*_, _≤_, _<_, max}
 use native.Mathlib.Omega.{arith}
 use lib.Dec.{eqb}
 use lib.ListN.{length, getD, take, drop, replicate, length-append, length-take, length-drop}
-use lib.Seq.{sets, drop-cons, drop-drop, take-at}
+use lib.Seq.{drop-cons, drop-drop}
 use Rattle.lines.specs.Lines.{lineLength, lineOk, bytesOf}
 use Rattle.lines.proofs.Laws.{bytes-length}
 use Rattle.lines.proofs.Texts.{text-length}
-use Rattle.modbus.proofs.Stores.{sets-front}
 use Rattle.meter.specs.declared.Meter.{Meter}
 use Rattle.board.specs.declared.Reply.{Reply}
 use Rattle.board.specs.declared.Reply.the-variants.{Silent, Sent, Refused}
 use Rattle.transcript.specs.Transcript.{begunBy, linesOf, badText, replyText, outcomeOf, lineText, meterAfter, transcriptOf}
 use Rattle.transcript.proofs.Outcomes.{brief}
-
--- what stands at the start of a buffer is read there
-pub front : (l bytes : List ℕ) → length bytes ≤ length l → take (length bytes) (sets l 0 bytes) ≡ bytes
-front l bytes h = ap (take (length bytes)) (sets-front l bytes h) ∙ take-at bytes _ (length bytes) refl
 
 -- ---- line by line
 

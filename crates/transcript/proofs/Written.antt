@@ -9,13 +9,14 @@ use lib.Seq.{sets}
 use borrow.Author.Tests.{le-leb}
 use Rattle.refusal.specs.declared.Refusal.{Refusal}
 use Rattle.lines.specs.Lines.{lineOk, bytesOf}
+use Rattle.modbus.proofs.Stores.{sets-taken}
 use Rattle.meter.specs.declared.Meter.{Meter}
 use Rattle.meter.specs.Meters.{meterOk}
 use Rattle.meter.proofs.Accepts.{new-answers, made-within}
 use Rattle.board.specs.declared.Reply.the-variants.{Refused}
 use Rattle.transcript.specs.Transcript.{outcomeOf, meterAfter, benchMeter, benchText, roomFor, Transcribed, TextWritten}
 use Rattle.transcript.proofs.Outcomes.{stays-within, never-refuses}
-use Rattle.transcript.proofs.Texts.{front, input-most}
+use Rattle.transcript.proofs.Texts.{input-most}
 
 fits : (input : List ℕ) → length (benchText input) ≤ 32 * length input
 unfolding benchText
@@ -26,7 +27,7 @@ whole input before answer after h t =
     let room : roomFor input (length before) ≡ true = le-leb _ _ h in
     let long : answer ≡ length (benchText input) = rw room at (t .told) in
     let bytes : after ≡ sets before 0 (benchText input) = rw room at (t .bytes) in
-    rw (long, bytes) (front before (benchText input) (omega (arith, fits input)))
+    rw (long, bytes) (sets-taken before (benchText input) (omega (arith, fits input)))
 
 new : meterOk benchMeter ≡ true
 unfolding benchMeter

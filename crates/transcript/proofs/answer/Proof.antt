@@ -9,6 +9,7 @@ use lib.ListN.{length, take, replicate, length-take}
 use lib.Seq.{sets, length-take-le}
 use Rattle.lines.specs.declared.Line.the-variants.{Frame, Bad}
 use Rattle.lines.specs.Lines.{bytesOf, lineOk, lineOf, frameOver}
+use Rattle.modbus.proofs.Stores.{sets-taken}
 use Rattle.meter.specs.declared.Meter.{Meter}
 use Rattle.board.specs.declared.Handled.{Handled}
 use Rattle.board.specs.Board.{Outcome, Allowed, boardOf}
@@ -16,7 +17,6 @@ use Rattle.board.proofs.Lengths.{reply-long}
 use borrow.Author.Needs.{needs}
 use Rattle.transcript.specs.Transcript.{badText, replyText, outcomeOf, lineText, meterAfter}
 use Rattle.transcript.proofs.Outcomes.{cut}
-use Rattle.transcript.proofs.Texts.{front}
 use Rattle.transcript.proofs.answer.Statement.{statement}
 use Rattle.transcript.proofs.answer.Tie as tie
 
@@ -52,7 +52,7 @@ module _ (m : Meter) (line frame : List ℕ) (n : ℕ) (is : lineOf line 257 ≡
   read =
       let put : frame ≡ sets (replicate 257 0) 0 (take 257 (bytesOf line)) = rw (ok .0) at holds in
       let long : n ≡ length (take 257 (bytesOf line)) = omega (arith, ok .1, length-take 257 (bytesOf line)) in
-      rw (put, long) (front (replicate 257 0) (take 257 (bytesOf line)) (omega (arith, length-take 257 (bytesOf line))))
+      rw (put, long) (sets-taken (replicate 257 0) (take 257 (bytesOf line)) (omega (arith, length-take 257 (bytesOf line))))
 
   outcome : boardOf m (take n frame) (replicate 256 0) ≡ outcomeOf m line
   unfolding outcomeOf
