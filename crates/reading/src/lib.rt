@@ -99,7 +99,11 @@ pub fn of(t: u32, it: Item, value: u32) -> Answer
         FREQUENCY => Answer::Reading(Quantity::Frequency(value as u16)),
         KTA => kta(value as u16),
         KTV => ktv(value as u16),
-        SEQUENCE => unless(!((value == 1) | (value == 2)), Quantity::Sequence(value as u16)),
+        SEQUENCE => unless(
+            !((value == 1) | (value == 2)),
+            Quantity::Sequence(value as u16),
+        ),
+        // Plain: no other kind is left.
         _ => Answer::Reading(Quantity::Plain(value as u16)),
     }
 }
