@@ -1,19 +1,23 @@
 -- Where the words of an item stand: behind those of the items before it.
-use mathlib.Core.Path.{_≡_, _∙_}
+use mathlib.Core.Path.{_≡_, refl, _∙_}
+use mathlib.Core.Bool.{Bool, true, false}
 use mathlib.Core.List.{List, [], _∷_}
-use Prim.Native.Nat.{ℕ, zero, suc, _+_, _≤_, _<_}
+use Prim.Native.Nat.{ℕ, zero, suc, _+_, _*_, _^_, _≤_, _<_}
 use native.Mathlib.Omega.{arith}
+use lib.Dec.{T}
 use lib.ListN.{length, getD, take, drop, length-drop}
 use lib.Seq.{getD-take, getD-drop, length-take-le}
-use borrow.Author.Tests.{lt-ltb, le-ltb}
+use borrow.Author.Tests.{eqb-true, lt-ltb, le-ltb}
 use Rattle.refusal.specs.declared.Refusal.the-variants.{IndexPastItems}
-use Rattle.words.specs.Words.{wordAt, valueAt}
-use Rattle.words.proofs.Laws.{value-word}
+use Rattle.words.specs.Words.{valueAt}
 use Rattle.directory.specs.declared.Item.{Item}
-use Rattle.directory.specs.Item.{none, isB}
-use Rattle.directory.specs.Run.{runItems, wordsOf}
+use Rattle.directory.specs.Item.{none}
+use Rattle.directory.specs.Order.{every, shaped}
+use Rattle.directory.specs.Run.{isL, runItems, wordsOf}
+use Rattle.directory.proofs.Order.{Narrow, every-at}
+use Rattle.directory.proofs.Shapes.{shape}
 use Rattle.reading.specs.declared.Answer.the-variants.{Refused}
-use Rattle.reading.specs.Readings.{longOf, wordOf, readingOf}
+use Rattle.reading.specs.Readings.{readingOf}
 use Rattle.collector.specs.Collector.{placeOf, itemOf}
 
 -- one item more
@@ -29,6 +33,20 @@ unfolding wordsOf
 words-within [] i h = absurd (omega (arith, h))
 words-within (it ∷ its) zero h = omega arith
 words-within (it ∷ its) (suc i) h = omega (arith, words-within its i (omega (arith, h)))
+
+-- an item of a directory sends one word or two
+pub narrow-at : (its : List Item) → T (every shaped its) → (i : ℕ) → i < length its → Narrow (getD its i none)
+narrow-at its t i h = by (isL (getD its i none)) refl
+  where
+    by : (l : Bool) → isL (getD its i none) ≡ l → Narrow (getD its i none)
+    by true e = let two = eqb-true (getD its i none .words) 2 e in record { some = omega (arith, two); few = omega (arith, two) }
+    by false e = let one = shape (getD its i none) (every-at shaped its t i h) .short e .0 in record { some = omega (arith, one); few = omega (arith, one) }
+
+-- what n words hold
+pub value-fits : (l : List ℕ) → ((i : ℕ) → getD l i 0 < 256) → (n at : ℕ) → valueAt n l at < 65536 ^ n
+unfolding valueAt
+value-fits l bytes zero at = omega arith
+value-fits l bytes (suc n) at = omega (arith, value-fits l bytes n at, bytes (at + 2 * n), bytes (at + 2 * n + 1))
 
 -- ---- a run, and the items of it
 
@@ -52,11 +70,3 @@ module _ (t : ℕ) (its : List Item) (reply : List ℕ) (index : ℕ) where
   pub item-reads : index < length its → itemOf t its reply index ≡ readingOf t it (valueAt (it .words) reply (placeOf its index))
   unfolding itemOf
   item-reads h = simp (lt-ltb index (length its) h)
-
-  pub item-long : index < length its → it .words ≡ 2 → longOf t (it .quantity) (valueAt 2 reply (placeOf its index)) ≡ itemOf t its reply index
-  unfolding itemOf
-  item-long h two = simp (lt-ltb index (length its) h, two)
-
-  pub item-word : index < length its → it .words ≡ 1 → wordOf (it .quantity) (isB it) (wordAt reply (placeOf its index)) ≡ itemOf t its reply index
-  unfolding itemOf
-  item-word h one = simp (lt-ltb index (length its) h, one, value-word reply (placeOf its index))

@@ -3,10 +3,10 @@ use mathlib.Core.Path.{_≡_, refl, sym, ap, subst, _∙_}
 use mathlib.Core.Logic.{_↔_, _⊎_, inl, inr}
 use mathlib.Core.Bool.{Bool, true, false, _||_, not, cond, false≢true}
 use mathlib.Core.List.{List}
-use Prim.Native.Nat.{ℕ, zero, suc, _+_, _≤_, _<_}
+use Prim.Native.Nat.{ℕ, zero, suc, _/_, _≤_, _<_}
 use native.Mathlib.Omega.{arith}
 use lib.Dec.{T, ltb, eqb}
-use lib.ListN.{length}
+use lib.ListN.{length, getD}
 use borrow.Author.Tests.{ltb-true, ltb-false, eqb-true, eqb-false, eq-eqb, ne-eqb, not-false}
 use Rattle.refusal.specs.declared.Refusal.{Refusal}
 use Rattle.refusal.specs.declared.Refusal.the-variants.{MeterOutOfLimits, BufferShort, RatioOutOfLimits, OwnAddressZero, SampleOutOfLimits, EnergyPastTop, NotARead, ReplyLength, ReplyCrc, ReplyForeign, ReplyMisfit, IndexPastItems, ValueImpossible, JoinPastTop}
@@ -24,19 +24,17 @@ use Rattle.directory.specs.declared.Span.the-variants as span
 use Rattle.directory.specs.Run.{runItems}
 use Rattle.directory.specs.Views.{View, passes}
 use Rattle.directory.proofs.Errors.{no-run}
-use Rattle.directory.proofs.Views.{passes-tested}
 use Rattle.modbus.specs.Frame.{addressOf}
 use Rattle.modbus.specs.Read.{readIn}
 use Rattle.modbus.proofs.Frames.{neither}
 use Rattle.modbus.proofs.Judged.{legal-read}
 use Rattle.reading.specs.declared.Quantity.{Quantity}
+use Rattle.reading.specs.declared.Quantity.the-variants.{Plain}
 use Rattle.reading.specs.declared.Answer.{Answer}
 use Rattle.reading.specs.declared.Answer.the-variants.{Reading, Error, Refused}
 use Rattle.reading.specs.Told.{told}
-use Rattle.reading.specs.Readings.{readingOf}
+use Rattle.reading.specs.Readings.{thirteen, quantitiesOf, readingOf}
 use Rattle.reading.proofs.Told.{one-answer-each}
-use Rattle.reading.proofs.Thirteen.{Entry, item-entry, refused-at}
-use Rattle.reading.proofs.Thirteen.Entry.{reads, refused}
 use Rattle.collector.specs.Collector.{heard, lengthWrong, isReadError, foreign, thirdOf, codeOf, errorOf, misfit, placeOf, itemOf, replyOf, collectorIn}
 use Rattle.collector.specs.When.{Asks, Asked, Sound, Fits, Holds, itemAt, valueIn, errorMisfit, Foreign, Misfits, Past, Impossible, ReplyGives, GivesCode, Reads, RepliesWhen, NotMisread}
 use Rattle.collector.proofs.Places.{run-length, run-at, item-past, item-reads}
@@ -67,6 +65,17 @@ unfolding errorOf
 error-code reply Function five says = simp (eq-eqb (length reply) 5 five, says)
 error-code reply Address five says = simp (eq-eqb (length reply) 5 five, says)
 error-code reply Data five says = simp (eq-eqb (length reply) 5 five, says)
+
+-- ---- the value of an item
+
+module _ (t : ℕ) (it : Item) (v : ℕ) where
+  impossible : thirteen it v ≡ true → readingOf t it v ≡ Refused ValueImpossible
+  unfolding readingOf
+  impossible h = rw h refl
+
+  possible : thirteen it v ≡ false → readingOf t it v ≡ Reading (getD (quantitiesOf t it v) (it .quantity / 64) (Plain v))
+  unfolding readingOf
+  possible h = rw h refl
 
 module _ (v : View) (good : T (passes v)) where
   -- ---- each row and rule leads to its answer
@@ -134,9 +143,7 @@ module _ (v : View) (good : T (passes v)) where
     row IndexPastItems h =
         let a = h .fits .sound .asked .asks in
         to-item (h .fits) ∙ sym (item-past _ _ _ _ (omega (arith, h .past, run-length (v .seen) (a .first) (a .count) (legal-read v good (a .items) .inside))))
-    row ValueImpossible h =
-        let a = h .holds .fits .sound .asked .asks in
-        to-reading (h .holds) ∙ refused-at (v .seen) (passes-tested v good) (tOf r) (a .first + index) (valueIn v a reply index) (omega (arith, legal-read v good (a .items) .inside, h .holds .below)) .1 (h .value)
+    row ValueImpossible h = to-reading (h .holds) ∙ impossible _ _ _ (h .value)
     row MeterOutOfLimits h = absurd h
     row BufferShort h = absurd h
     row OwnAddressZero h = absurd h
@@ -165,16 +172,14 @@ module _ (v : View) (good : T (passes v)) where
 
     -- 13, or the reading
     at-item : (h : Holds v request reply r index) → Found
-    at-item h =
-        let a = h .fits .sound .asked .asks in
-        by (item-entry (tOf r) (itemAt v a index) (valueIn v a reply index))
+    at-item h = by (thirteen (itemAt v a index) (valueIn v a reply index)) refl
       where
         a : Asks v request
         a = h .fits .sound .asked .asks
 
-        by : {k : ℕ} → Entry k (readingOf (tOf r) (itemAt v a index) (valueIn v a reply index)) → Found
-        by (reads q e k) = tells q (record { holds = h; reading = e })
-        by (refused e) = refuses ValueImpossible (record { holds = h; value = refused-at (v .seen) (passes-tested v good) (tOf r) (a .first + index) (valueIn v a reply index) (omega (arith, legal-read v good (a .items) .inside, h .below)) .0 e })
+        by : (t : Bool) → thirteen (itemAt v a index) (valueIn v a reply index) ≡ t → Found
+        by true e = refuses ValueImpossible (record { holds = h; value = e })
+        by false e = tells _ (record { holds = h; reading = possible _ _ _ e })
 
     -- 12
     at-index : (f : Fits v request reply r) → Found

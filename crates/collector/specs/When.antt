@@ -25,8 +25,7 @@ use Rattle.reading.specs.declared.Quantity.{Quantity}
 use Rattle.reading.specs.declared.Answer.{Answer}
 use Rattle.reading.specs.declared.Answer.the-variants.{Reading, Error}
 use Rattle.reading.specs.Told.{told}
-use Rattle.reading.specs.Readings.{readingOf}
-use Rattle.reading.specs.Impossible.{thirteen}
+use Rattle.reading.specs.Readings.{thirteen, readingOf}
 use Rattle.collector.specs.Collector.{heard, lengthWrong, isReadError, foreign, thirdOf, misfit, placeOf, collectorIn}
 
 -- 11, of 0x83: length not 5 or code not 1 to 3

@@ -5,7 +5,7 @@ ghost use Prim.Native.Nat.{_+_, _*_, _≤_};
 ghost use lib.Dec.{T};
 ghost use lib.ListN.{length};
 ghost use Rattle.directory.specs.Item.{items};
-ghost use Rattle.directory.specs.Order.{every, narrow};
+ghost use Rattle.directory.specs.Order.{every, shaped, meant};
 ghost use Rattle.directory.specs.Run.{wordsOf};
 ghost use Rattle.directory.specs.Views.{viewOf, Lent};
 ghost use Rattle.modbus.specs.Frame.{wordNumber};
@@ -90,7 +90,7 @@ fn with_table(
 
 // What a reply says, to a read of the items `asked`, which are a part of the table.
 fn replied(asked: &[u16], request: &[u8], reply: &[u8], tenths: u32, index: usize) -> Answer
-    requires { ⌜ T (every narrow (items (now asked))) ⌝ }
+    requires { ⌜ T (every shaped (items (now asked))) × T (every meant (items (now asked))) ⌝ }
     requires { ⌜ (length (now request) ≡ 8) × (wordsOf (items (now asked)) ≡ wordNumber (now request)) ⌝ }
     ensures { λ r. ⌜ r ≡ replyOf tenths (now (request .entry)) (now (reply .entry)) (items (now (asked .entry))) index ⌝ }
 {
@@ -138,7 +138,7 @@ fn error(reply: &[u8]) -> Answer
 
 // The reading of one item, from a data reply that fits the request.
 fn item(asked: &[u16], reply: &[u8], tenths: u32, index: usize) -> Answer
-    requires { ⌜ T (every narrow (items (now asked))) ⌝ }
+    requires { ⌜ T (every shaped (items (now asked))) × T (every meant (items (now asked))) ⌝ }
     requires { ⌜ 3 + 2 * wordsOf (items (now asked)) ≤ length (now reply) ⌝ }
     ensures { λ r. ⌜ r ≡ itemOf tenths (items (now (asked .entry))) (now (reply .entry)) index ⌝ }
 {
@@ -147,17 +147,13 @@ fn item(asked: &[u16], reply: &[u8], tenths: u32, index: usize) -> Answer
     }
     let at = place(asked, index);
     let it = directory::item_at(asked, index);
-    if it.words == 2 {
-        let value = words::value_at(reply, at, 2);
-        return reading::long(tenths, it.quantity, value);
-    }
-    let value = words::word_at(reply, at);
-    reading::word(it.quantity, it.is_b(), value)
+    let value = words::value_at(reply, at, it.words as usize);
+    reading::of(tenths, it, value)
 }
 
 // Where the words of an item start in a data reply: behind those of the items before it.
 fn place(asked: &[u16], index: usize) -> usize
-    requires { ⌜ T (every narrow (items (now asked))) ⌝ }
+    requires { ⌜ T (every shaped (items (now asked))) ⌝ }
     requires { ⌜ index ≤ length (items (now asked)) ⌝ }
     ensures { λ r. ⌜ r ≡ placeOf (items (now (asked .entry))) index ⌝ }
 {

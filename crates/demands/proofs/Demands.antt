@@ -11,7 +11,6 @@ use Rattle.directory.proofs.Bites.{tests-bite}
 use Rattle.directory.proofs.Sends.{run-sends}
 use Rattle.modbus.proofs.Judged.{read-when}
 use Rattle.reading.proofs.Told.{one-answer-each}
-use Rattle.reading.proofs.Thirteen.{thirteen-when}
 use Rattle.collector.proofs.When as collector
 use Rattle.collector.proofs.Joins.{joins-when}
 use Rattle.meter.proofs.Parts.{zero-to-neither}
@@ -77,7 +76,6 @@ replies = record {
 pub readings : Readings
 readings = record {
   answers = collector.replies-when;
-  impossible = thirteen-when;
   joins = joins-when;
   split = join-split;
   with-data = with-data;

@@ -1,15 +1,16 @@
 -- What a meter shows of an item is read as what it means: an argument for each kind, and the items of a directory come under them by its
 -- tests.
 use mathlib.Core.Path.{_≡_, refl, sym, ap, _∙_}
-use mathlib.Core.Bool.{Bool, true, false, _&&_, cond}
+use mathlib.Core.Bool.{Bool, true, false, _&&_, not, cond}
 use mathlib.Core.List.{List, [], _∷_, map}
 use Prim.Native.Nat.{ℕ, zero, suc, _*_, _/_, _%_, _^_, _≤_, _<_, zero-le}
 use native.Mathlib.Nat.{lt-of-le-of-lt}
 use native.Mathlib.Omega.{arith}
 use lib.Dec.{T, leb, ltb, eqb}
-use lib.ListN.{length, getD, List·getD-eq-default}
-use borrow.Author.Tests.{eqb-true, le-leb, lt-leb, lt-ltb}
+use lib.ListN.{length, getD}
+use borrow.Author.Tests.{eqb-true, lt-leb, lt-ltb, le-ltb}
 use lib.IntN.{ℤ, pos, negsuc, natAbs}
+use Rattle.refusal.specs.declared.Refusal.the-variants.{ValueImpossible}
 use Rattle.signed.specs.Signs.{negative, signedOf}
 use Rattle.signed.specs.declared.Signed.{Signed}
 use Rattle.signed.proofs.Signs.{sign-most}
@@ -18,7 +19,7 @@ use Rattle.words.proofs.Signs.{signed-back}
 use Rattle.ratio.proofs.Powers.{powers-fit}
 use Rattle.counts.proofs.Joins.{counts-fit}
 use Rattle.directory.specs.declared.Item.{Item}
-use Rattle.directory.specs.Item.{none, inBytes, isB}
+use Rattle.directory.specs.Item.{item, none, inBytes, isB}
 use Rattle.directory.specs.Order.{roomOf, tested}
 use Rattle.meter.specs.declared.Meter.{Meter}
 use Rattle.meter.specs.Samples.{factorOf}
@@ -30,9 +31,9 @@ use Rattle.registers.proofs.Widths.{Shows, in-room}
 use Rattle.reading.specs.declared.Quantity.{Quantity}
 use Rattle.reading.specs.declared.Quantity.the-variants as read
 use Rattle.reading.specs.declared.Answer.{Answer}
-use Rattle.reading.specs.declared.Answer.the-variants.{Reading}
-use Rattle.reading.specs.Readings.{impossible, when, times, signedIn, counted, longs, shorts, readingOf}
-use Rattle.reading.proofs.ByKind.{long-kind, word-kind, Each, each-at}
+use Rattle.reading.specs.declared.Answer.the-variants.{Reading, Refused}
+use Rattle.reading.specs.Readings.{times, signedIn, counted, readingOf}
+use Rattle.reading.proofs.ByKind.{Each, each-at, answerAt, by-kind}
 use Rattle.reading.proofs.Wide.{wordsFor, wide-at}
 use Rattle.demands.specs.Meaning.{cut, powerMeanings, signedMeanings, countMeanings, lowMeanings, highMeanings, wrapMeanings, factorMeanings, signMeanings, meanings, meaningOf}
 
@@ -49,12 +50,12 @@ upper-clear it v h = by (inBytes it) (eqb (it .fills) 1) refl h
 
 -- ---- values and their readings
 
--- what a value reads as
+-- what a value of a quantity reads as, in as many words as the quantity asks
 abbrev answerOf : ℕ → ℕ → ℕ → ℕ → Answer
-answerOf t kind which v = cond (eqb (wordsFor kind which) 2) (getD (longs t which v) kind impossible) (getD (shorts v) kind impossible)
+answerOf t kind which v = answerAt t (item 0 0 (wordsFor kind which) which) v kind
 
-possible : {b : Bool} {q : Quantity} → b ≡ true → when b q ≡ Reading q
-possible {b} {q} h = ap (λ (t : Bool). when t q) h
+possible : {x : Bool} {q : Quantity} → x ≡ false → cond x (Refused ValueImpossible) (Reading q) ≡ Reading q
+possible {x} {q} h = ap (λ (b : Bool). cond b (Refused ValueImpossible) (Reading q)) h
 
 -- what is mapped over a list, within it
 pub mapped : {A B : Type 0} (f : A → B) (l : List A) (d : A) (e : B) (i : ℕ) → i < length l → getD (map f l) i e ≡ f (getD l i d)
@@ -66,8 +67,8 @@ mapped f (x ∷ l) d e (suc i) h = mapped f l d e i (omega arith)
 alike : (f : ℕ → Quantity) (vs : List ℕ) (w : ℕ) {a : Answer} → w < length vs → a ≡ Reading (f (getD vs w 0)) → a ≡ Reading (getD (map f vs) w (read.Plain 0))
 alike f vs w b one = one ∙ ap Reading (sym (mapped f vs 0 (read.Plain 0) w b))
 
-limited : (f : ℕ → Quantity) (vs : List ℕ) (w top : ℕ) → w < length vs → getD vs w 0 ≤ top → when (leb (getD vs w 0) top) (f (getD vs w 0)) ≡ Reading (getD (map f vs) w (read.Plain 0))
-limited f vs w top b within = alike f vs w b (possible (le-leb _ _ within))
+limited : (f : ℕ → Quantity) (vs : List ℕ) (w top : ℕ) → w < length vs → getD vs w 0 ≤ top → cond (ltb top (getD vs w 0)) (Refused ValueImpossible) (Reading (f (getD vs w 0))) ≡ Reading (getD (map f vs) w (read.Plain 0))
+limited f vs w top b within = alike f vs w b (possible (le-ltb _ _ within))
 
 -- signed values are read back, a zero without a sign
 abbrev unsignedZero : Bool → ℕ → Signed
@@ -76,9 +77,9 @@ unsignedZero negative x = record { negative = negative && ltb 0 x; magnitude = x
 read-signed : (n : ℕ) (negative : Bool) (x : ℕ) → x < 65536 ^ n / 2 → signedIn n (twos n negative x) ≡ unsignedZero negative x
 read-signed n negative x h i = record { negative = signed-back .sign n negative x h i; magnitude = signed-back .magnitude n negative x h i }
 
-signed-limited : (f : Signed → Quantity) (n top : ℕ) (negative : Bool) (x : ℕ) → top < 65536 ^ n / 2 → x ≤ top → (let s = signedIn n (twos n negative x) in when (leb (s .magnitude) top) (f s) ≡ Reading (f (unsignedZero negative x)))
+signed-limited : (f : Signed → Quantity) (n top : ℕ) (negative : Bool) (x : ℕ) → top < 65536 ^ n / 2 → x ≤ top → (let s = signedIn n (twos n negative x) in cond (ltb top (s .magnitude)) (Refused ValueImpossible) (Reading (f s)) ≡ Reading (f (unsignedZero negative x)))
 signed-limited f n top negative x small within =
-    ap (λ (s : Signed). when (leb (s .magnitude) top) (f s)) (read-signed n negative x (lt-of-le-of-lt within small)) ∙ possible (le-leb x top within)
+    ap (λ (s : Signed). cond (ltb top (s .magnitude)) (Refused ValueImpossible) (Reading (f s))) (read-signed n negative x (lt-of-le-of-lt within small)) ∙ possible (le-ltb top x within)
 
 unsigned-zero : (z : ℤ) → unsignedZero (negative z) (natAbs z) ≡ signedOf z
 unsigned-zero (pos n) = refl
@@ -153,19 +154,19 @@ module _ (m : Meter) (h : meterOk m ≡ true) where
   signs-read w b = limited read.Sign (signValues m) w _ b (rw (sign-at m w) (sign-most (powerAt m w .negative)))
 
   sector-read : ReadKind m 11
-  sector-read = few m 11 1 (possible (le-leb _ _ (parts .sector)), tt)
+  sector-read = few m 11 1 (possible (le-ltb _ _ (parts .sector)), tt)
 
   frequency-read : ReadKind m 12
   frequency-read = few m 12 1 (refl, tt)
 
   kta-read : ReadKind m 13
-  kta-read = few m 13 1 (possible (ratio-parts m h .0), tt)
+  kta-read = few m 13 1 (possible (ap not (ratio-parts m h .0)), tt)
 
   ktv-read : ReadKind m 14
-  ktv-read = few m 14 1 (possible (ratio-parts m h .1), tt)
+  ktv-read = few m 14 1 (possible (ap not (ratio-parts m h .1)), tt)
 
   sequence-read : ReadKind m 15
-  sequence-read = few m 15 1 (possible (parts .sequence), tt)
+  sequence-read = few m 15 1 (possible (ap not (parts .sequence)), tt)
 
   plains-read : ReadKind m 16
   plains-read w b = alike read.Plain (plainValues m) w b refl
@@ -184,10 +185,9 @@ module _ (dir : List Item) (tests : T (tested dir)) (m : Meter) (ok : meterOk m 
   item-read shows =
       let q = it .quantity in
       let v = shownOf m q in
-      let inside : 17 ≤ q / 64 → ⊥ = λ beyond. omega (arith, shows .case, ap length (List·getD-eq-default (kindsShown m) [] beyond)) in
-      rw (
-        wide-at dir tests i l .words,
-        long-kind (meterT m) q v (q / 64) (omega arith),
-        word-kind q (isB it) v (q / 64) (upper-clear it v (in-room dir tests i l (shows .fits))) (omega arith),
-      )
-      (each-at (ReadKind m) 0 17 (q / 64) (kinds-read m ok) zero-le (omega arith) (q % 64) (shows .case))
+      let w = wide-at dir tests i l in
+      let once : q % 64 % 64 ≡ q % 64 = omega arith in
+      let same : answerAt (meterT m) it v (q / 64) ≡ answerOf (meterT m) (q / 64) (q % 64) v = rw (w .words, once) refl in
+      by-kind (meterT m) it v (w .most) (upper-clear it v (in-room dir tests i l (shows .fits)))
+      ∙ same
+      ∙ each-at (ReadKind m) 0 17 (q / 64) (kinds-read m ok) zero-le (w .most) (q % 64) (shows .case)

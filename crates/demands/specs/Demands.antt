@@ -23,7 +23,6 @@ use Rattle.own.specs.Kinds.{KindsInOrder}
 use Rattle.directory.specs.Bites.{TestsBite}
 use Rattle.modbus.specs.Read.{ReadWhen}
 use Rattle.reading.specs.Told.{OneAnswerEach}
-use Rattle.reading.specs.Impossible.{ThirteenWhen}
 use Rattle.collector.specs.When.{RepliesWhen, NotMisread, JoinsWhen}
 use Rattle.meter.specs.declared.samples.Sample.{Sample}
 use Rattle.meter.specs.declared.groups.Setup.{Setup}
@@ -107,7 +106,6 @@ pub record Replies : Type 0 where
 -- STATEMENT: demand 2, its second half: the collector turns each reply into the one reading assigned, or the one refusal
 pub record Readings : Type 0 where
   pub answers : EveryReply RepliesWhen
-  pub impossible : ThirteenWhen
   pub joins : (r : Ratios) (c : Count) (wrap : ℕ) → JoinsWhen r c wrap
   pub split : JoinSplit
   pub with-data : EveryMeeting WithData

@@ -1,4 +1,3 @@
 pub mod ByKind
 pub mod Told
 pub mod Wide
-pub mod Thirteen

@@ -1,7 +1,7 @@
 -- Each item of a directory that passes the tests is as wide as its quantity asks: a quantity of four bytes has room in an L alone, one of two or
 -- fewer does not take an L's words.
-use mathlib.Core.Path.{_≡_, refl, sym, ap, _∙_}
-use mathlib.Core.Bool.{Bool, true, false, _&&_, _||_, cond, false≢true, and-eq-true-iff}
+use mathlib.Core.Path.{_≡_, refl, ap}
+use mathlib.Core.Bool.{Bool, true, false, _&&_, _||_, cond, and-eq-true-iff}
 use mathlib.Core.List.{List, [], _∷_}
 use Prim.Native.Nat.{ℕ, zero, suc, _+_, _*_, _/_, _%_, _≤_, _<_, zero-le}
 use native.Mathlib.Omega.{arith}
@@ -9,9 +9,9 @@ use lib.Dec.{T, leb, ltb, eqb}
 use lib.ListN.{length, getD, replicate, List·getD-eq-default}
 use borrow.Author.Tests.{leb-true, ltb-true, ltb-false, eqb-true}
 use Rattle.directory.specs.declared.Item.{Item}
-use Rattle.directory.specs.Item.{none, isB}
+use Rattle.directory.specs.Item.{none}
 use Rattle.directory.specs.Quantity.{widths, widthOf}
-use Rattle.directory.specs.Order.{roomOf, tested}
+use Rattle.directory.specs.Order.{roomOf, shaped, meant, tested}
 use Rattle.directory.specs.Run.{isL}
 use Rattle.directory.proofs.ByKind.{_also_}
 use Rattle.directory.proofs.Rules.{directory-rules}
@@ -104,12 +104,11 @@ takes q h = each-at Kind 0 17 (q / 64) kinds zero-le (kind-most q h) (q % 64) h
 
 -- ---- an item
 
--- it has the words of its quantity, which is of one of the 16 kinds; and no L is a B
+-- it has the words of its quantity, which is of one of the 16 kinds
 pub record Wide (it : Item) : Type 0 where
   pub words : it .words ≡ wordsFor (it .quantity / 64) (it .quantity % 64)
-  pub apart : (isL it && isB it) ≡ false
   pub least : 1 ≤ it .quantity / 64
-  pub most : it .quantity / 64 ≤ 16
+  pub most : it .quantity / 64 < 17
 
 -- what takes three bytes has no room in a W; what takes two or fewer leaves a word of an L
 words-of : (it : Item) → Shape it → (long : Bool) → isL it ≡ long → (wide : Bool) → cond wide (3 ≤ widthOf (it .quantity)) (widthOf (it .quantity) ≤ 2) → widthOf (it .quantity) ≤ roomOf it → 2 * it .words < 2 + widthOf (it .quantity) → it .words ≡ cond wide 2 1
@@ -118,51 +117,17 @@ words-of it s true l false w room whole = absurd (omega (arith, eqb-true (it .wo
 words-of it s false l true w room whole = absurd (omega (arith, s .short l .1, w, room))
 words-of it s false l false w room whole = s .short l .0
 
-no-byte : (it : Item) → Shape it → (long : Bool) → isL it ≡ long → (long && isB it) ≡ false
-no-byte it s true l = s .long l
-no-byte it s false l = refl
-
-pub wide-at : (dir : List Item) → T (tested dir) → (i : ℕ) → i < length dir → Wide (getD dir i none)
-wide-at dir tests i h =
-    let it = getD dir i none in
+pub wide : (it : Item) → shaped it ≡ true → meant it ≡ true → Wide it
+wide it shapely means =
     let q = it .quantity in
-    let s = shape it (directory-rules dir tests .shapes i h) in
-    let m = and-eq-true-iff (leb 1 (widthOf q) && leb (widthOf q) (roomOf it)) _ .0 (directory-rules dir tests .meanings i h) in
+    let m = and-eq-true-iff (leb 1 (widthOf q) && leb (widthOf q) (roomOf it)) _ .0 means in
     let n = and-eq-true-iff (leb 1 (widthOf q)) _ .0 (m .0) in
     let some = leb-true _ _ (n .0) in
     record {
-      words = words-of it s (isL it) refl (isLong (q / 64) (q % 64)) (takes q some) (leb-true _ _ (n .1)) (ltb-true _ _ (m .1));
-      apart = no-byte it s (isL it) refl;
+      words = words-of it (shape it shapely) (isL it) refl (isLong (q / 64) (q % 64)) (takes q some) (leb-true _ _ (n .1)) (ltb-true _ _ (m .1));
       least = kind-least q some;
-      most = omega (arith, kind-most q some);
+      most = kind-most q some;
     }
 
--- the kinds of an L, and those of a W or B
-module _ (it : Item) (w : Wide it) where
-  abbrev k : ℕ
-  k = it .quantity / 64
-
-  abbrev l : Bool
-  l = isLong k (it .quantity % 64)
-
-  as-long : (b : Bool) → l ≡ b → isL it ≡ b
-  as-long true e = ap (λ (n : ℕ). eqb n 2) (w .words ∙ ap (λ (b : Bool). cond b 2 1) e)
-  as-long false e = ap (λ (n : ℕ). eqb n 2) (w .words ∙ ap (λ (b : Bool). cond b 2 1) e)
-
-  is-long : isL it ≡ l
-  is-long = as-long l refl
-
-  pub long-kinds : isL it ≡ true → (k ≤ 9) × (k ≡ 8 → ⊥)
-  long-kinds e = by (ltb k 8) (eqb k 9) refl refl (sym is-long ∙ e)
-    where
-      by : (a b : Bool) → ltb k 8 ≡ a → eqb k 9 ≡ b → (a || (b && eqb (it .quantity % 64) 1)) ≡ true → (k ≤ 9) × (k ≡ 8 → ⊥)
-      by true b x y h = (omega (arith, ltb-true k 8 x), λ z. omega (arith, ltb-true k 8 x, z))
-      by false true x y h = (omega (arith, eqb-true k 9 y), λ z. omega (arith, eqb-true k 9 y, z))
-      by false false x y h = absurd (false≢true h)
-
-  pub word-kinds : isL it ≡ false → 8 ≤ k
-  word-kinds e = by (ltb k 8) refl (sym is-long ∙ e)
-    where
-      by : (a : Bool) → ltb k 8 ≡ a → (a || (eqb k 9 && eqb (it .quantity % 64) 1)) ≡ false → 8 ≤ k
-      by true x h = absurd (false≢true (sym h))
-      by false x h = ltb-false k 8 x
+pub wide-at : (dir : List Item) → T (tested dir) → (i : ℕ) → i < length dir → Wide (getD dir i none)
+wide-at dir tests i h = wide (getD dir i none) (directory-rules dir tests .shapes i h) (directory-rules dir tests .meanings i h)

@@ -1,13 +1,19 @@
 // What the words of an item read as (paper 01, "Collector"): a quantity in its unit, or refusal 13 for a value that no
-// meter shows. The kind of the item's quantity decides. `long` reads an item of two words, `word` an item of one.
+// meter shows. The kind of the item's quantity decides.
 ghost use mathlib.Core.Path.{_≡_};
-ghost use Prim.Native.Nat.{_*_, _-_, _/_, _≤_};
-ghost use mathlib.Core.Bool.{cond};
-ghost use lib.Dec.{leb};
-ghost use Rattle.reading.specs.declared.Quantity.the-variants.{Factor};
-ghost use Rattle.reading.specs.Readings.{when, times, unitOf, counted, signedIn, longOf, wordOf};
+ghost use Prim.Native.Nat.{_*_, _-_, _/_, _^_, _<_, _≤_};
+ghost use mathlib.Core.Bool.{true, false, not, cond};
+ghost use lib.Dec.{leb, ltb};
+ghost use Rattle.refusal.specs.declared.Refusal.the-variants.{ValueImpossible};
+ghost use Rattle.words.specs.Signed.{magnitudeIn};
+ghost use Rattle.ratio.specs.Ratios.{ktaOk, ktvOk};
+ghost use Rattle.directory.specs.Order.{shaped, meant};
+ghost use Rattle.reading.specs.declared.Quantity.the-variants.{Factor, Kta, Ktv};
+ghost use Rattle.reading.specs.declared.Answer.the-variants.{Reading, Refused};
+ghost use Rattle.reading.specs.Readings.{signedIn, times, unitOf, counted, readingOf};
 use counts::Count;
 use counts::WattHours;
+use directory::Item;
 use directory::quantity::*;
 use ratio::Ratios;
 use refusal::ErrorCode;
@@ -66,61 +72,50 @@ const TOP_IN_HUNDREDTHS: u64 = 100;
 
 const TOP_IN_THOUSANDTHS: u64 = 1_000;
 
-// What an L reads as, at a ratio of t tenths.
-pub fn long(t: u32, quantity: u16, value: u32) -> Answer
-    ensures { λ r. ⌜ r ≡ longOf t quantity value ⌝ }
+// What an item of that value reads as, at a ratio of t tenths. A kind of two bytes or one stands in one word alone, so its value
+// is a u16.
+pub fn of(t: u32, it: Item, value: u32) -> Answer
+    requires { ⌜ (shaped it ≡ true) × (meant it ≡ true) ⌝ }
+    requires { ⌜ value < 65536 ^ it .words ⌝ }
+    ensures { λ r. ⌜ r ≡ readingOf t it value ⌝ }
 {
-    let which = quantity % 64;
-    let kind = quantity - which;
+    if it.is_b() & (255 < value) {
+        return Answer::Refused(Refusal::ValueImpossible);
+    }
+    let which = it.quantity % 64;
+    let kind = it.quantity - which;
     match kind {
         VOLTAGE => Answer::Reading(Quantity::Voltage(value)),
         CURRENT => Answer::Reading(Quantity::Current(value)),
         POWER => Answer::Reading(Quantity::Power(value as u64 * unit(t, which))),
         SIGNED_POWER => Answer::Reading(Quantity::SignedPower(signed_long(value))),
-        ENERGY_COUNT => when(value <= Count::TOP, energy(t, value)),
-        LOW => when(value <= WattHours::LOW_TOP, Quantity::Low(value)),
-        HIGH => when(value <= WattHours::HIGH_TOP, Quantity::High(value)),
-        FACTOR => factor(signed_long(value), TOP_IN_THOUSANDTHS, 1),
-        _ => Answer::Refused(Refusal::ValueImpossible),
+        ENERGY_COUNT => unless(Count::TOP < value, energy(t, value)),
+        LOW => unless(WattHours::LOW_TOP < value, Quantity::Low(value)),
+        HIGH => unless(WattHours::HIGH_TOP < value, Quantity::High(value)),
+        WRAP => Answer::Reading(Quantity::Wrap(value as u16)),
+        FACTOR => factor(it.words == 2, value),
+        SIGN => unless(1 < value, Quantity::Sign(value as u16)),
+        SECTOR => unless(2 < value, Quantity::Sector(value as u16)),
+        FREQUENCY => Answer::Reading(Quantity::Frequency(value as u16)),
+        KTA => kta(value as u16),
+        KTV => ktv(value as u16),
+        SEQUENCE => unless(
+            !((value == 1) | (value == 2)),
+            Quantity::Sequence(value as u16),
+        ),
+        // Plain: no other kind is left.
+        _ => Answer::Reading(Quantity::Plain(value as u16)),
     }
 }
 
-// What a W reads as, or if `byte` a B, whose upper byte has to be 0.
-pub fn word(quantity: u16, byte: bool, value: u16) -> Answer
-    ensures { λ r. ⌜ r ≡ wordOf quantity byte value ⌝ }
+// A reading, unless its value is one that no meter shows.
+fn unless(impossible: bool, quantity: Quantity) -> Answer
+    ensures { λ r. ⌜ r ≡ cond impossible (Refused ValueImpossible) (Reading quantity) ⌝ }
 {
-    if byte & (255 < value) {
-        return Answer::Refused(Refusal::ValueImpossible);
-    }
-    let kind = quantity - quantity % 64;
-    match kind {
-        WRAP => Answer::Reading(Quantity::Wrap(value)),
-        FACTOR => factor(signed_word(value), TOP_IN_HUNDREDTHS, 10),
-        SIGN => when(value <= 1, Quantity::Sign(value)),
-        SECTOR => when(value <= 2, Quantity::Sector(value)),
-        FREQUENCY => Answer::Reading(Quantity::Frequency(value)),
-        KTA => when(
-            (Ratios::KTA_LEAST <= value) & (value <= Ratios::KTA_TOP),
-            Quantity::Kta(value),
-        ),
-        KTV => when(
-            (Ratios::KTV_LEAST <= value) & (value <= Ratios::KTV_TOP),
-            Quantity::Ktv(value),
-        ),
-        SEQUENCE => when((value == 1) | (value == 2), Quantity::Sequence(value)),
-        PLAIN => Answer::Reading(Quantity::Plain(value)),
-        _ => Answer::Refused(Refusal::ValueImpossible),
-    }
-}
-
-// A reading, if its value is one that a meter can show.
-fn when(possible: bool, quantity: Quantity) -> Answer
-    ensures { λ r. ⌜ r ≡ when possible quantity ⌝ }
-{
-    if possible {
-        Answer::Reading(quantity)
-    } else {
+    if impossible {
         Answer::Refused(Refusal::ValueImpossible)
+    } else {
+        Answer::Reading(quantity)
     }
 }
 
@@ -147,18 +142,35 @@ fn energy(t: u32, value: u32) -> Quantity
     }
 }
 
-// A factor that is sent in units of `unit` thousandths, and is at most `top` of these in magnitude.
-fn factor(s: Signed, top: u64, unit: u64) -> Answer
-    requires { ⌜ (top ≤ 1000) × (unit ≤ 10) ⌝ }
-    ensures { λ r. ⌜ r ≡ when (leb (s .magnitude) top) (Factor (times unit s)) ⌝ }
+// In two words a factor is sent in thousandths, in one word in hundredths.
+fn factor(long: bool, value: u32) -> Answer
+    requires { ⌜ (long ≡ false → value < 65536) ⌝ }
+    ensures { λ r. ⌜ r ≡ cond (cond long (ltb 1000 (magnitudeIn 2 value)) (ltb 100 (magnitudeIn 1 value))) (Refused ValueImpossible) (Reading (Factor (cond long (signedIn 2 value) (times 10 (signedIn 1 value))))) ⌝ }
 {
-    if top < s.magnitude {
-        return Answer::Refused(Refusal::ValueImpossible);
+    if long {
+        let s = signed_long(value);
+        return unless(TOP_IN_THOUSANDTHS < s.magnitude, Quantity::Factor(s));
     }
-    Answer::Reading(Quantity::Factor(Signed {
+    let s = signed_word(value as u16);
+    let tenfold = Signed {
         negative: s.negative,
-        magnitude: s.magnitude * unit,
-    }))
+        magnitude: s.magnitude * 10,
+    };
+    unless(TOP_IN_HUNDREDTHS < s.magnitude, Quantity::Factor(tenfold))
+}
+
+fn kta(value: u16) -> Answer
+    ensures { λ r. ⌜ r ≡ cond (not (ktaOk value)) (Refused ValueImpossible) (Reading (Kta value)) ⌝ }
+{
+    let possible = (Ratios::KTA_LEAST <= value) & (value <= Ratios::KTA_TOP);
+    unless(!possible, Quantity::Kta(value))
+}
+
+fn ktv(value: u16) -> Answer
+    ensures { λ r. ⌜ r ≡ cond (not (ktvOk value)) (Refused ValueImpossible) (Reading (Ktv value)) ⌝ }
+{
+    let possible = (Ratios::KTV_LEAST <= value) & (value <= Ratios::KTV_TOP);
+    unless(!possible, Quantity::Ktv(value))
 }
 
 fn signed_long(value: u32) -> Signed

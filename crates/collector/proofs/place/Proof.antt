@@ -9,8 +9,8 @@ use Rattle.directory.specs.declared.Item.{Item}
 use Rattle.directory.specs.Item.{items}
 use Rattle.directory.specs.Run.{wordsOf}
 use Rattle.directory.proofs.Flat.{items-length}
-use Rattle.directory.proofs.Order.{Narrow, every-narrow}
-use Rattle.collector.proofs.Places.{words-upto}
+use Rattle.directory.proofs.Order.{Narrow}
+use Rattle.collector.proofs.Places.{words-upto, narrow-at}
 use borrow.Author.Needs.{needs}
 use Rattle.collector.proofs.place.Statement.{statement}
 use Rattle.collector.proofs.place.Tie as tie
@@ -36,7 +36,7 @@ item-at-requires c κs =
 narrow : (r : tie.After-item-at Inv-loop μ-loop) → Narrow (r .item-at .result)
 narrow r =
     let s = r .before .before .before .before in
-    rw (r .item-at .ensures) (every-narrow (its s) (s .pre .0) (r .before .before .loop .i) (omega (arith, s .pre .1)))
+    rw (r .item-at .ensures) (narrow-at (its s) (s .pre .0) (r .before .before .loop .i) (omega (arith, s .pre .1)))
 
 cast-at : tie.Need-cast-at Inv-loop μ-loop
 cast-at c = search needs

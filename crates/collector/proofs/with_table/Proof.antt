@@ -5,7 +5,10 @@ use Rattle.directory.specs.declared.Item.{Item}
 use Rattle.directory.specs.declared.Span.{Span}
 use Rattle.directory.specs.declared.Span.the-variants.{Items, Error}
 use Rattle.directory.specs.Item.{items}
+use Rattle.directory.specs.Order.{shaped, meant}
 use Rattle.directory.specs.Views.{View, viewOf}
+use Rattle.directory.proofs.Order.{every-run}
+use Rattle.directory.proofs.Views.{tested-shaped, tested-meant, passes-tested}
 use Rattle.modbus.specs.Read.{readIn}
 use Rattle.modbus.proofs.Judged.{AskedPart, asked-part}
 use Rattle.reading.specs.declared.Answer.{Answer}
@@ -53,7 +56,13 @@ part-requires c κs = asked c .inside
 replied-requires : tie.Need-replied-requires
 replied-requires c κs =
     let a = asked (c .before) in
-    rw (c .part .ensures) (a .narrow, (a .long, a .sends))
+    let s = start (c .before) in
+    let g = c .before .before .span .given .0 in
+    let good = passes-tested (view s) (s .pre .good) in
+    rw (c .part .ensures, a .holds) (
+      (every-run shaped (view s .seen) (g .0) (g .1 .0) (tested-shaped (view s .seen) good), every-run meant (view s .seen) (g .0) (g .1 .0) (tested-meant (view s .seen) good)),
+      (a .long, rw (a .holds) at (a .sends)),
+    )
 
 returns-2 : tie.Need-returns-2
 returns-2 c =
