@@ -36,7 +36,7 @@ use Rattle.reading.specs.Told.{told}
 use Rattle.reading.specs.Readings.{thirteen, quantitiesOf, readingOf}
 use Rattle.reading.proofs.Told.{one-answer-each}
 use Rattle.collector.specs.Collector.{heard, lengthWrong, isReadError, foreign, thirdOf, codeOf, errorOf, misfit, placeOf, itemOf, replyOf, collectorIn}
-use Rattle.collector.specs.When.{Asks, Asked, Sound, Fits, Holds, itemAt, valueIn, errorMisfit, Foreign, Misfits, Past, Impossible, ReplyGives, GivesCode, Reads, RepliesWhen, NotMisread}
+use Rattle.collector.specs.When.{Asks, Asked, Sound, Fits, Holds, itemAt, valueIn, errorMisfit, ForeignReply, Misfits, Past, Impossible, ReplyGives, GivesCode, Reads, RepliesWhen, NotMisread}
 use Rattle.collector.proofs.Places.{run-length, run-at, item-past, item-reads}
 use Rattle.collector.proofs.Judged.{length-refused, crc-refused, foreign-refused, error-given, misfit-refused, item-given, fitting}
 
@@ -86,7 +86,7 @@ module _ (v : View) (good : T (passes v)) where
   Row NotARead request reply r index = (ratiosOk r ≡ true) × (Asks v request → ⊥)
   Row ReplyLength request reply r index = Asked v request r × (lengthWrong reply ≡ true)
   Row ReplyCrc request reply r index = Asked v request r × (lengthWrong reply ≡ false) × (intact reply ≡ false)
-  Row ReplyForeign request reply r index = Foreign v request reply r
+  Row ReplyForeign request reply r index = ForeignReply v request reply r
   Row ReplyMisfit request reply r index = Misfits v request reply r
   Row IndexPastItems request reply r index = Past v request reply r index
   Row ValueImpossible request reply r index = Impossible v request reply r index

@@ -78,8 +78,8 @@ module _ (v : View) where
   valueIn asks reply index = valueAt (itemAt asks index .words) reply (placeOf (runItems (v .seen) (asks .first) (asks .count)) index)
 
   -- 10: reply address differs, or function neither 0x03 nor 0x83
-  abbrev pub Foreign : List ℕ → List ℕ → Ratios → Type 0
-  Foreign request reply r =
+  abbrev pub ForeignReply : List ℕ → List ℕ → Ratios → Type 0
+  ForeignReply request reply r =
       Asked request r × (lengthWrong reply ≡ false) × (intact reply ≡ true) × (foreign request reply ≡ true)
 
   -- 11: an error reply of another length or code, or data of another byte number or length
@@ -130,7 +130,7 @@ module _ (v : View) where
       pub row-7 : ReplyGives (refusedBy 7) ↔ ((ratiosOk r ≡ true) × (Asks request → ⊥))
       pub row-8 : ReplyGives (refusedBy 8) ↔ (Asked request r × (lengthWrong reply ≡ true))
       pub row-9 : ReplyGives (refusedBy 9) ↔ (Asked request r × (lengthWrong reply ≡ false) × (intact reply ≡ false))
-      pub row-10 : ReplyGives (refusedBy 10) ↔ Foreign request reply r
+      pub row-10 : ReplyGives (refusedBy 10) ↔ ForeignReply request reply r
       pub row-11 : ReplyGives (refusedBy 11) ↔ Misfits request reply r
       pub row-12 : ReplyGives (refusedBy 12) ↔ Past request reply r index
       pub row-13 : ReplyGives (refusedBy 13) ↔ Impossible request reply r index

@@ -44,20 +44,20 @@ use Rattle.demands.specs.ShutOut.{ShutOut}
 use Rattle.demands.specs.Starred.{ExamplesHold}
 
 -- what is said of every view that passes the tests, paper 01's own among them (`OwnPasses.passed`)
-abbrev pub Every : (View → Type 0) → Type 0
-Every Of = (v : View) → T (passes v) → Of v
+abbrev pub EveryView : (View → Type 0) → Type 0
+EveryView Of = (v : View) → T (passes v) → Of v
 
 -- of every frame and buffer handed to any meter
 abbrev pub EveryFrame : (View → Meter → List ℕ → List ℕ → Type 0) → Type 0
-EveryFrame Of = Every (λ v. (m : Meter) (frame buffer : List ℕ) → Of v m frame buffer)
+EveryFrame Of = EveryView (λ v. (m : Meter) (frame buffer : List ℕ) → Of v m frame buffer)
 
 -- of every request to a meter within limits, of the address that it names, with room for the reply
 abbrev pub EveryMeeting : (View → Meter → List ℕ → List ℕ → Type 0) → Type 0
-EveryMeeting Of = Every (λ v. (m : Meter) (request buffer : List ℕ) → Meets m request buffer → Of v m request buffer)
+EveryMeeting Of = EveryView (λ v. (m : Meter) (request buffer : List ℕ) → Meets m request buffer → Of v m request buffer)
 
 -- of every reply to any request, whatever the ratios told and the item asked
 abbrev pub EveryReply : (View → List ℕ → List ℕ → Ratios → ℕ → Type 0) → Type 0
-EveryReply Of = Every (λ v. (request reply : List ℕ) (r : Ratios) (index : ℕ) → Of v request reply r index)
+EveryReply Of = EveryView (λ v. (request reply : List ℕ) (r : Ratios) (index : ℕ) → Of v request reply r index)
 
 -- STATEMENT: demand 1: no frame, sample, record or reply stops the board or the collector, and what is damaged, foreign or refused
 -- leaves the meter and the reply buffer untouched, but for the error reply due. (That no call stops: none has a requires, and each
@@ -67,7 +67,7 @@ pub record Demand1 : Type 0 where
   pub frames : EveryFrame Untouched
   pub unseen : EveryFrame BufferUnseen
   pub replies : EveryReply NotMisread
-  pub records : Every AfterEvents
+  pub records : EveryView AfterEvents
 
 -- STATEMENT: what board and collector share: the numbers of answers, CRC, words, directory, lines
 pub record Ground : Type 0 where
@@ -110,8 +110,8 @@ pub record Readings : Type 0 where
   pub split : JoinSplit
   pub with-data : EveryMeeting WithData
   pub readings : EveryMeeting RoundTrip
-  pub typed : Every TypesKept
-  pub always : Every ReadsAlways
+  pub typed : EveryView TypesKept
+  pub always : EveryView ReadsAlways
 
 -- STATEMENT: demand 2, with what both halves rest on; each call's outcome is determined, the paper's examples come out, and `bench`
 -- writes the text that the paper asks for
@@ -129,7 +129,7 @@ pub record Demand2 : Type 0 where
 pub record Demands : Type 0 where
   pub one : Demand1
   pub two : Demand2
-  pub three : Every Demand3
-  pub polled : Every EveryItemPolled
-  pub not-empty : Every NotEmpty
-  pub tight : Every ShutOut
+  pub three : EveryView Demand3
+  pub polled : EveryView EveryItemPolled
+  pub not-empty : EveryView NotEmpty
+  pub tight : EveryView ShutOut

@@ -23,8 +23,8 @@ pub record Example : Type 0 where
   pub says : List ℕ
 
 -- an example from its two parts
-abbrev example : List ℕ → List ℕ → Example
-example given says = record { given = given; says = says }
+abbrev gives : List ℕ → List ℕ → Example
+gives given says = record { given = given; says = says }
 
 -- the CRC of some bytes, as it goes on the line
 abbrev crcBytes : List ℕ → List ℕ
@@ -47,41 +47,41 @@ abbrev factors : Signed → List ℕ
 factors f = sent 1 (factorHundredths (f .negative) (f .magnitude)) ++ sent 2 (factorThousandths (f .negative) (f .magnitude))
 
 -- the request for the first voltage (003), without its CRC
-abbrev asked : List ℕ
-asked = 0x01 ∷ 0x03 ∷ 0x03 ∷ 0x01 ∷ 0x00 ∷ 0x02 ∷ []
+abbrev voltageAsked : List ℕ
+voltageAsked = 0x01 ∷ 0x03 ∷ 0x03 ∷ 0x01 ∷ 0x00 ∷ 0x02 ∷ []
 
 -- the answer to it, without its CRC
-abbrev answer : List ℕ
-answer = 0x01 ∷ 0x03 ∷ 0x04 ∷ 0x00 ∷ 0x01 ∷ 0x86 ∷ 0xA0 ∷ []
+abbrev voltageAnswer : List ℕ
+voltageAnswer = 0x01 ∷ 0x03 ∷ 0x04 ∷ 0x00 ∷ 0x01 ∷ 0x86 ∷ 0xA0 ∷ []
 
 -- the starred examples, in the paper's order
 unfoldable pub starred : List Example
 starred =
     -- CRC: 01 03 03 01 00 04 ends 15 8D; 01 03 03 01 00 02 ends 95 8F (003)
-    example (crcBytes (0x01 ∷ 0x03 ∷ 0x03 ∷ 0x01 ∷ 0x00 ∷ 0x04 ∷ [])) (0x15 ∷ 0x8D ∷ []) ∷
-    example (crcBytes asked) (0x95 ∷ 0x8F ∷ []) ∷
+    gives (crcBytes (0x01 ∷ 0x03 ∷ 0x03 ∷ 0x01 ∷ 0x00 ∷ 0x04 ∷ [])) (0x15 ∷ 0x8D ∷ []) ∷
+    gives (crcBytes voltageAsked) (0x95 ∷ 0x8F ∷ []) ∷
     -- FF 03 20 00 00 10 ends 5A 18 (001)
-    example (crcBytes (0xFF ∷ 0x03 ∷ 0x20 ∷ 0x00 ∷ 0x00 ∷ 0x10 ∷ [])) (0x5A ∷ 0x18 ∷ []) ∷
+    gives (crcBytes (0xFF ∷ 0x03 ∷ 0x20 ∷ 0x00 ∷ 0x00 ∷ 0x10 ∷ [])) (0x5A ∷ 0x18 ∷ []) ∷
     -- 01 03 04 00 01 86 A0 ends C9 EB (003): 100,000 mV, which is reading 1, a voltage
-    example (crcBytes answer) (0xC9 ∷ 0xEB ∷ []) ∷
-    example (told (collectorOf (sealed asked) (sealed answer) (ratios 1 10) 0)) (0 ∷ 1 ∷ 100000 ∷ []) ∷
+    gives (crcBytes voltageAnswer) (0xC9 ∷ 0xEB ∷ []) ∷
+    gives (told (collectorOf (sealed voltageAsked) (sealed voltageAnswer) (ratios 1 10) 0)) (0 ∷ 1 ∷ 100000 ∷ []) ∷
     -- KTA 1, KTV 99: step 10. KTA 10, KTV 10: step 100
-    example (stepOf (tOf (ratios 1 99)) ∷ []) (10 ∷ []) ∷
-    example (stepOf (tOf (ratios 10 10)) ∷ []) (100 ∷ []) ∷
+    gives (stepOf (tOf (ratios 1 99)) ∷ []) (10 ∷ []) ∷
+    gives (stepOf (tOf (ratios 10 10)) ∷ []) (100 ∷ []) ∷
     -- KTA 4,999, KTV 10: hundredths; KTA 5,000, KTV 10: whole watts, of 100 hundredths
-    example (powerUnit (tOf (ratios 4999 10)) ∷ []) (1 ∷ []) ∷
-    example (powerUnit (tOf (ratios 5000 10)) ∷ []) (100 ∷ []) ∷
+    gives (powerUnit (tOf (ratios 4999 10)) ∷ []) (1 ∷ []) ∷
+    gives (powerUnit (tOf (ratios 5000 10)) ∷ []) (100 ∷ []) ∷
     -- step 1,000: 1,999 Wh gives register 1, Low 1,999
-    example (stepOf 1000 ∷ registerOf 1000 (wattHours 1999) .0 ∷ lowOf (wattHours 1999) ∷ []) (1000 ∷ 1 ∷ 1999 ∷ []) ∷
+    gives (stepOf 1000 ∷ registerOf 1000 (wattHours 1999) .0 ∷ lowOf (wattHours 1999) ∷ []) (1000 ∷ 1 ∷ 1999 ∷ []) ∷
     -- 100,000,000,000 Wh gives register 0, wrap 1, High 100,000
-    example
+    gives
     (registerOf 1000 (wattHours 100000000000) .0 ∷ wrapOf 1000 (wattHours 100000000000) ∷ highOf (wattHours 100000000000) ∷ [])
     (0 ∷ 1 ∷ 100000 ∷ []) ∷
     -- P of -150 hundredths: sign 1, signed word -1; of -50: sign 1, signed word 0
-    example (signs (signedOf (negsuc 149))) (1 ∷ 0xFFFFFFFF ∷ []) ∷
-    example (signs (signedOf (negsuc 49))) (1 ∷ 0 ∷ []) ∷
+    gives (signs (signedOf (negsuc 149))) (1 ∷ 0xFFFFFFFF ∷ []) ∷
+    gives (signs (signedOf (negsuc 49))) (1 ∷ 0 ∷ []) ∷
     -- factor -985: FF 9E and FF FF FC 27
-    example (factors (signedOf (negsuc 984))) (0xFF ∷ 0x9E ∷ 0xFF ∷ 0xFF ∷ 0xFC ∷ 0x27 ∷ []) ∷
+    gives (factors (signedOf (negsuc 984))) (0xFF ∷ 0x9E ∷ 0xFF ∷ 0xFF ∷ 0xFC ∷ 0x27 ∷ []) ∷
     []
 
 -- STATEMENT: the definitions give what the paper says, example by example

@@ -32,14 +32,14 @@ module _ (v : View) (frame : List ℕ) where
   wrong = numberWrong (v .most) (wordNumber frame)
 
   -- the run for the words asked
-  abbrev run : Span
-  run = runIn (v .seen) (startOf frame) (wordNumber frame)
+  abbrev runAsked : Span
+  runAsked = runIn (v .seen) (startOf frame) (wordNumber frame)
 
   -- STATEMENT: when a read is answered with error 02, when with error 03, and when with data; error 01 is never due to one
   pub record ReadWhen : Type 0 where
-    pub error-02 : (readIn v frame ≡ Error Address) ↔ ((length frame ≡ 8) × (wrong ≡ false) × (run ≡ Error Address))
-    pub error-03 : (readIn v frame ≡ Error Data) ↔ ((length frame ≡ 8 → ⊥) ⊎ (wrong ≡ true) ⊎ (run ≡ Error Data))
+    pub error-02 : (readIn v frame ≡ Error Address) ↔ ((length frame ≡ 8) × (wrong ≡ false) × (runAsked ≡ Error Address))
+    pub error-03 : (readIn v frame ≡ Error Data) ↔ ((length frame ≡ 8 → ⊥) ⊎ (wrong ≡ true) ⊎ (runAsked ≡ Error Data))
     pub items :
         (first count : ℕ) →
-        (readIn v frame ≡ Items first count) ↔ ((length frame ≡ 8) × (wrong ≡ false) × (run ≡ Items first count))
+        (readIn v frame ≡ Items first count) ↔ ((length frame ≡ 8) × (wrong ≡ false) × (runAsked ≡ Items first count))
     pub never : readIn v frame ≡ Error Function → ⊥

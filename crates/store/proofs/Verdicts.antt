@@ -21,7 +21,7 @@ use Rattle.meter.proofs.Accepts.{other-within}
 use Rattle.store.specs.declared.Verdict.{Verdict}
 use Rattle.store.specs.declared.Verdict.the-variants.{Good, Wrong}
 use Rattle.store.specs.declared.Written.{Written}
-use Rattle.store.specs.Writes.{toStandard, toOutput, groupWords, replacedIn, storedOf, wrongOf, writtenOf, toGroup, fits, verdictTold, WriteWhen}
+use Rattle.store.specs.Writes.{toStandard, toOutput, groupWords, replacedIn, storedOf, wrongOf, writtenOf, toGroup, groupFits, verdictTold, WriteWhen}
 
 -- what the tests lead to: a shaped, p to a group, n its words, g its values; m is the meter, k the meter with it stored
 abbrev judged : Bool → Bool → Bool → Bool → Meter → Meter → Written
@@ -99,24 +99,24 @@ module _ (m k : Meter) where
   stores false p f h = wrong-good h
 
 module _ (m : Meter) (frame : List ℕ) where
-  is-judged : writtenOf m frame ≡ by-three m (storedOf m frame) (writeShaped frame) (toGroup frame) (fits frame)
+  is-judged : writtenOf m frame ≡ by-three m (storedOf m frame) (writeShaped frame) (toGroup frame) (groupFits frame)
   unfolding writtenOf
   is-judged = three m (storedOf m frame) (writeShaped frame) (toGroup frame) (eqb (wordNumber frame) (groupWords frame)) (groupOk (startOf frame) (writeValues frame))
 
 pub write-when : (m : Meter) (frame : List ℕ) → WriteWhen m frame
 write-when m frame =
     record {
-      error-02 = rw (is-judged m frame) (address-when m (storedOf m frame) (writeShaped frame) (toGroup frame) (fits frame));
-      error-03 = rw (is-judged m frame) (data-when m (storedOf m frame) (writeShaped frame) (toGroup frame) (fits frame));
-      legal = rw (is-judged m frame) (good-when m (storedOf m frame) (writeShaped frame) (toGroup frame) (fits frame));
-      only = rw (is-judged m frame) (only-these m (storedOf m frame) (writeShaped frame) (toGroup frame) (fits frame));
-      kept = rw (is-judged m frame) (keeps m (storedOf m frame) (writeShaped frame) (toGroup frame) (fits frame));
-      stored = rw (is-judged m frame) (stores m (storedOf m frame) (writeShaped frame) (toGroup frame) (fits frame));
+      error-02 = rw (is-judged m frame) (address-when m (storedOf m frame) (writeShaped frame) (toGroup frame) (groupFits frame));
+      error-03 = rw (is-judged m frame) (data-when m (storedOf m frame) (writeShaped frame) (toGroup frame) (groupFits frame));
+      legal = rw (is-judged m frame) (good-when m (storedOf m frame) (writeShaped frame) (toGroup frame) (groupFits frame));
+      only = rw (is-judged m frame) (only-these m (storedOf m frame) (writeShaped frame) (toGroup frame) (groupFits frame));
+      kept = rw (is-judged m frame) (keeps m (storedOf m frame) (writeShaped frame) (toGroup frame) (groupFits frame));
+      stored = rw (is-judged m frame) (stores m (storedOf m frame) (writeShaped frame) (toGroup frame) (groupFits frame));
     }
 
 -- ---- within limits
 
-module _ (m : Meter) (frame : List ℕ) (hm : meterOk m ≡ true) (t : toGroup frame ≡ true) (f : fits frame ≡ true) where
+module _ (m : Meter) (frame : List ℕ) (hm : meterOk m ≡ true) (t : toGroup frame ≡ true) (f : groupFits frame ≡ true) where
   -- the values are in the range of the group that they go to
   ranged : (address : ℕ) → eqb (startOf frame) address ≡ true → groupOk address (writeValues frame) ≡ true
   ranged address s =

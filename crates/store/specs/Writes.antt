@@ -66,8 +66,8 @@ writtenOf m frame =
     (record { verdict = Good; meter = storedOf m frame }))))
 
 -- its words are that group's, and each value is in range
-abbrev pub fits : List ℕ → Bool
-fits frame = eqb (wordNumber frame) (groupWords frame) && groupOk (startOf frame) (writeValues frame)
+abbrev pub groupFits : List ℕ → Bool
+groupFits frame = eqb (wordNumber frame) (groupWords frame) && groupOk (startOf frame) (writeValues frame)
 
 module _ (m : Meter) (frame : List ℕ) where
   -- how it is judged, in numbers
@@ -77,8 +77,8 @@ module _ (m : Meter) (frame : List ℕ) where
   -- STATEMENT: when a write is answered with error 02 and when with error 03, and no other; else it is legal and stored
   pub record WriteWhen : Type 0 where
     pub error-02 : Judged (errorBy 2) ↔ ((writeShaped frame ≡ true) × (toGroup frame ≡ false))
-    pub error-03 : Judged (errorBy 3) ↔ ((writeShaped frame ≡ false) ⊎ ((toGroup frame ≡ true) × (fits frame ≡ false)))
-    pub legal : (writtenOf m frame .verdict ≡ Good) ↔ ((writeShaped frame ≡ true) × (toGroup frame ≡ true) × (fits frame ≡ true))
+    pub error-03 : Judged (errorBy 3) ↔ ((writeShaped frame ≡ false) ⊎ ((toGroup frame ≡ true) × (groupFits frame ≡ false)))
+    pub legal : (writtenOf m frame .verdict ≡ Good) ↔ ((writeShaped frame ≡ true) × (toGroup frame ≡ true) × (groupFits frame ≡ true))
     pub only : (n : ℕ) → Judged (errorBy n) → (n ≡ 2) ⊎ (n ≡ 3)
     pub kept : (code : ErrorCode) → writtenOf m frame .verdict ≡ Wrong code → writtenOf m frame .meter ≡ m
     pub stored : writtenOf m frame .verdict ≡ Good → writtenOf m frame .meter ≡ storedOf m frame
