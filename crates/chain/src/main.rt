@@ -6,16 +6,16 @@ ghost use mathlib.Core.Path.{_≡_};
 ghost use Prim.Native.Nat.{_≤_};
 ghost use lib.ListN.{length};
 use board::Reply;
-use collector::Answer;
 use collector::Joined;
 use collector::Quantity;
 use collector::Ratios;
+use meter::Answer;
 use meter::Meter;
 use meter::samples::Powers;
 
 const REPLY_ROOM: usize = 256;
 
-// Reads of +Ea, with their CRC: two words from 0x0325, two from 0x101c, their wrap word 0x1540, and Low and High from 0x1500.
+// Reads of +Ea, with their CRC: two words from 0x0325, two from 0x101c, the wrap word of both at 0x1540, Low and High from 0x1500.
 const BYTE_REGISTER: [u8; 8] = [0x01, 0x03, 0x03, 0x25, 0x00, 0x02, 0xD5, 0x84];
 
 const WORD_REGISTER: [u8; 8] = [0x01, 0x03, 0x10, 0x1C, 0x00, 0x02, 0x01, 0x0D];
@@ -37,12 +37,7 @@ fn main() {
     let after = six_minutes(new.meter);
     let exact = after.accepted * A_SECOND;
     tell::exact(after.accepted, exact);
-    tell::place(b"byte-addressed register");
-    register(after.meter, ratios, &BYTE_REGISTER, exact);
-    tell::place(b"word register");
-    register(after.meter, ratios, &WORD_REGISTER, exact);
-    tell::place(b"exact table");
-    halves(after.meter, ratios, exact);
+    three_places(after.meter, ratios, exact / Meter::ONE_WH);
 }
 
 struct Sampled {
@@ -66,7 +61,7 @@ fn six_minutes(new: Meter) -> Sampled
     while accepted < SECONDS {
         let answered = meter.after(sample);
         let answer = answered.answer;
-        if let meter::Answer::Refused(reason) = answer {
+        if let Answer::Refused(reason) = answer {
             tell::refused(reason);
             return Sampled { meter, accepted };
         }
@@ -74,6 +69,16 @@ fn six_minutes(new: Meter) -> Sampled
         accepted += 1;
     }
     Sampled { meter, accepted }
+}
+
+// Each beside the exact energy, in whole Wh.
+fn three_places(meter: Meter, ratios: Ratios, exact: u64) {
+    say::text(b"+Ea from the byte-addressed register\n");
+    register(meter, ratios, &BYTE_REGISTER, exact);
+    say::text(b"+Ea from the word register\n");
+    register(meter, ratios, &WORD_REGISTER, exact);
+    say::text(b"+Ea from the exact table\n");
+    halves(meter, ratios, exact);
 }
 
 // A register's count and the wrap word, joined.
@@ -87,6 +92,7 @@ fn register(meter: Meter, ratios: Ratios, request: &[u8], exact: u64) {
     let Quantity::Wrap(wrap) = read(&WRAP_WORD, &buffer[..m], ratios, 0) else {
         return;
     };
+    tell::count(count, step, wrap);
     load(collector::join(ratios, count, wrap), exact, step as u64);
 }
 
@@ -100,6 +106,7 @@ fn halves(meter: Meter, ratios: Ratios, exact: u64) {
     let Quantity::High(high) = read(&LOW_AND_HIGH, &buffer[..n], ratios, 1) else {
         return;
     };
+    tell::halves(low, high);
     load(collector::join_halves(low, high), exact, 1);
 }
 
@@ -110,35 +117,27 @@ fn poll(meter: Meter, request: &[u8], buffer: &mut [u8]) -> usize
 {
     let handled = board::handle(meter, request, buffer);
     let did = handled.reply;
-    match did {
-        Reply::Silent => {
-            tell::silent();
-            0
-        }
-        Reply::Sent(n) => {
-            tell::exchange(request, &buffer[..n]);
-            n
-        }
-        Reply::Refused(reason) => {
-            tell::refused(reason);
-            0
-        }
-    }
+    let Reply::Sent(n) = did else {
+        tell::unanswered(did);
+        return 0;
+    };
+    tell::exchange(request, &buffer[..n]);
+    n
 }
 
-// The collector reads one item of a reply. What is no reading is told, and goes on as a plain word, which no part of an energy is.
+// The collector reads one item of a reply. What is no reading is told, and goes on as a plain word, which is no part of an energy.
 fn read(request: &[u8], reply: &[u8], ratios: Ratios, index: usize) -> Quantity {
     let answer = collector::read(request, reply, ratios, index);
-    tell::answer(answer);
-    match answer {
-        Answer::Reading(q) => q,
-        _ => Quantity::Plain(0),
-    }
+    let collector::Answer::Reading(quantity) = answer else {
+        tell::unread(answer);
+        return Quantity::Plain(0);
+    };
+    quantity
 }
 
 fn load(joined: Joined, exact: u64, step: u64) {
     match joined {
-        Joined::Energy(wh) => tell::bounds(wh.0, exact / Meter::ONE_WH, step),
+        Joined::Energy(wh) => tell::bounds(wh.0, exact, step),
         Joined::Refused(reason) => tell::refused(reason),
     }
 }

@@ -1,36 +1,30 @@
 // What happens on the way, in words.
+use board::Reply;
 use collector::Answer;
-use collector::Quantity;
+use collector::Count;
 use collector::Ratios;
 use collector::Refusal;
 use meter::Meter;
 
-pub fn meter(answer: meter::Answer, ratios: Ratios) {
-    say::field(b"a new meter of address 1, KTA ", ratios.kta as u64);
+pub fn meter(made: meter::Answer, ratios: Ratios) {
+    say::field(b"a meter of address 1, KTA ", ratios.kta as u64);
     say::field(b", KTV ", ratios.ktv as u64);
     say::field(
-        b" tenths: registers count steps of ",
+        b" tenths: a register counts steps of ",
         ratio::energy_step(ratios.tenths()) as u64,
     );
     say::text(b" Wh\n");
-    if let meter::Answer::Refused(reason) = answer {
+    if let meter::Answer::Refused(reason) = made {
         refused(reason);
     }
 }
 
-// The exact energy comes in hundredths of a watt-second.
+// The energy comes in hundredths of a watt-second.
 pub fn exact(accepted: u64, energy: u64) {
     say::field(b"samples accepted: ", accepted);
-    say::field(b", exact energy: ", energy / Meter::ONE_WH);
+    say::field(b"; their exact energy: ", energy / Meter::ONE_WH);
     say::field(b" Wh and ", energy % Meter::ONE_WH);
-    say::field(b" hundredths of a watt-second, of which 1 Wh has ", Meter::ONE_WH);
-    say::end();
-}
-
-pub fn place(name: &[u8]) {
-    say::text(b"+Ea, ");
-    say::text(name);
-    say::end();
+    say::text(b" hundredths of a watt-second, 360000 to the Wh\n");
 }
 
 pub fn exchange(request: &[u8], reply: &[u8]) {
@@ -41,8 +35,19 @@ pub fn exchange(request: &[u8], reply: &[u8]) {
     say::end();
 }
 
-pub fn silent() {
-    say::text(b"  silent\n");
+pub fn unanswered(did: Reply) {
+    match did {
+        Reply::Refused(reason) => refused(reason),
+        _ => say::text(b"  silent\n"),
+    }
+}
+
+pub fn unread(answer: Answer) {
+    match answer {
+        Answer::Refused(reason) => refused(reason),
+        Answer::Error(code) => say::error(code),
+        _ => {}
+    }
 }
 
 pub fn refused(reason: Refusal) {
@@ -51,49 +56,32 @@ pub fn refused(reason: Refusal) {
     say::end();
 }
 
-pub fn answer(a: Answer) {
-    say::text(b"  read as ");
-    match a {
-        Answer::Reading(q) => quantity(q),
-        Answer::Error(code) => say::error(code),
-        Answer::Refused(reason) => say::refused(reason),
-    }
+pub fn count(count: Count, step: u32, wrap: u16) {
+    say::field(b"  read as count ", count.0 as u64);
+    say::field(b" in steps of ", step as u64);
+    say::field(b" Wh, and wrap ", wrap as u64);
     say::end();
 }
 
-// The readings that make an energy.
-fn quantity(q: Quantity) {
-    match q {
-        Quantity::Energy { count, step, wh } => energy(count.0, step, wh.0),
-        Quantity::Wrap(n) => say::field(b"wrap ", n as u64),
-        Quantity::Low(n) => say::field(b"Low ", n as u64),
-        Quantity::High(n) => say::field(b"High ", n as u64),
-        _ => say::text(b"no part of an energy"),
-    }
+pub fn halves(low: u32, high: u32) {
+    say::field(b"  read as Low ", low as u64);
+    say::field(b" and High ", high as u64);
+    say::end();
 }
 
-fn energy(count: u32, step: u32, wh: u64) {
-    say::field(b"count ", count as u64);
-    say::field(b", step ", step as u64);
-    say::field(b" Wh: ", wh);
-    say::text(b" Wh");
-}
-
-// All in whole Wh: what else the exact energy has is less than a Wh, and decides neither bound.
+// All in whole Wh: what the exact energy has beyond them is less than a Wh, and decides neither bound.
 pub fn bounds(joined: u64, exact: u64, step: u64) {
-    say::field(b"  joined ", joined);
-    say::field(b" Wh, never above the exact ", exact);
-    say::text(b" Wh: ");
-    if exact < joined {
-        say::text(b"no\n");
-        return;
-    }
-    say::field(b"yes; below by ", exact - joined);
-    say::field(b" Wh and the rest, less than one step of ", step);
-    say::text(b" Wh: ");
-    if exact - joined < step {
-        say::text(b"yes\n");
+    say::field(b"  joined: ", joined);
+    let below = if joined <= exact { exact - joined } else { 0 };
+    bound(b" Wh\n  never above the exact ", exact, joined <= exact);
+    bound(b"  below it by less than ", step, below < step);
+}
+
+fn bound(what: &[u8], wh: u64, holds: bool) {
+    say::field(what, wh);
+    if holds {
+        say::text(b" Wh: yes\n");
     } else {
-        say::text(b"no\n");
+        say::text(b" Wh: no\n");
     }
 }

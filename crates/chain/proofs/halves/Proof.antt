@@ -1,6 +1,5 @@
 -- A reply is as long as the poll says.
 use mathlib.Core.Path.{sym}
-use native.Mathlib.Omega.{arith}
 use lib.Seq.{length-take-le}
 use borrow.Author.Needs.{needs}
 use Rattle.chain.proofs.halves.Statement.{statement}
@@ -51,6 +50,9 @@ enum-known-high c = search needs
 returns-2 : tie.Need-returns-2
 returns-2 c = search needs
 
+halves-requires : tie.Need-halves-requires
+halves-requires c κs = search needs
+
 join-halves-requires : tie.Need-join-halves-requires
 join-halves-requires c κs = search needs
 
@@ -79,6 +81,7 @@ halves-spec =
     read-requires-2
     enum-known-high
     returns-2
+    halves-requires
     join-halves-requires
     load-requires
     returns-3)

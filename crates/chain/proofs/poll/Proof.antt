@@ -14,14 +14,17 @@ sent c = reply-long _ _ _ (c .before .before .before .before .handle .ensures .h
 handle-requires : tie.Need-handle-requires
 handle-requires c κs = search needs
 
-enum-told : tie.Need-enum-told
-enum-told c = search needs
-
-silent-requires : tie.Need-silent-requires
-silent-requires c κs = search needs
-
 enum-known-did : tie.Need-enum-known-did
 enum-known-did c = search needs
+
+unanswered-requires : tie.Need-unanswered-requires
+unanswered-requires c κs = search needs
+
+same-length : tie.Need-same-length
+same-length c = search needs
+
+returns : tie.Need-returns
+returns c = search needs
 
 slice-reshare-prefix-exchange : tie.Need-slice-reshare-prefix-exchange
 slice-reshare-prefix-exchange c = omega (arith, sent (c .before))
@@ -32,46 +35,23 @@ slice-aggregate-exchange c = sym (length-take-le _ _ (omega (arith, sent (c .bef
 exchange-requires : tie.Need-exchange-requires
 exchange-requires c κs = search needs
 
-enum-known-did-2 : tie.Need-enum-known-did-2
-enum-known-did-2 c = search needs
-
-refused-requires : tie.Need-refused-requires
-refused-requires c κs = search needs
-
-same-length : tie.Need-same-length
-same-length c = search needs
-
-returns : tie.Need-returns
-returns c = search needs
-
 same-length-2 : tie.Need-same-length-2
 same-length-2 c = search needs
 
 returns-2 : tie.Need-returns-2
 returns-2 c = (omega (arith, sent (c .before .before .before)), search needs)
 
-same-length-3 : tie.Need-same-length-3
-same-length-3 c = search needs
-
-returns-3 : tie.Need-returns-3
-returns-3 c = search needs
-
 pub poll-spec : {M : Type 1} → statement M
 poll-spec =
     tie.close
     (tie.spec
     handle-requires
-    enum-told
-    silent-requires
     enum-known-did
+    unanswered-requires
+    same-length
+    returns
     slice-reshare-prefix-exchange
     slice-aggregate-exchange
     exchange-requires
-    enum-known-did-2
-    refused-requires
-    same-length
-    returns
     same-length-2
-    returns-2
-    same-length-3
-    returns-3)
+    returns-2)

@@ -1,6 +1,5 @@
--- A reply is as long as the poll says.
+-- Each reply is as long as its poll says.
 use mathlib.Core.Path.{sym}
-use native.Mathlib.Omega.{arith}
 use lib.Seq.{length-take-le}
 use borrow.Author.Needs.{needs}
 use Rattle.chain.proofs.register.Statement.{statement}
@@ -54,6 +53,9 @@ enum-known-wrap c = search needs
 returns-2 : tie.Need-returns-2
 returns-2 c = search needs
 
+count-requires : tie.Need-count-requires
+count-requires c κs = search needs
+
 join-requires : tie.Need-join-requires
 join-requires c κs = search needs
 
@@ -86,6 +88,7 @@ register-spec =
     read-requires-2
     enum-known-wrap
     returns-2
+    count-requires
     join-requires
     cast-load
     load-requires
