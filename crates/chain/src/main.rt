@@ -32,8 +32,7 @@ const A_SECOND: u64 = 4_100_037 + 3_950_011 + 4_020_000;
 fn main() {
     let ratios = Ratios { kta: 40, ktv: 10 };
     let new = Meter::new(1, ratios);
-    let answer = new.answer;
-    tell::meter(answer, ratios);
+    tell::meter(ratios);
     let after = six_minutes(new.meter);
     let exact = after.accepted * A_SECOND;
     tell::exact(after.accepted, exact);

@@ -6,25 +6,20 @@ use collector::Ratios;
 use collector::Refusal;
 use meter::Meter;
 
-pub fn meter(made: meter::Answer, ratios: Ratios) {
-    say::field(b"a meter of address 1, KTA ", ratios.kta as u64);
-    say::field(b", KTV ", ratios.ktv as u64);
-    say::field(
-        b" tenths: a register counts steps of ",
-        ratio::energy_step(ratios.tenths()) as u64,
+pub fn meter(ratios: Ratios) {
+    let step = ratio::energy_step(ratios.tenths());
+    say::sentence(
+        b"a new meter of address 1, KTA #, KTV # tenths: a register counts steps of # Wh\n",
+        &[ratios.kta as u64, ratios.ktv as u64, step as u64],
     );
-    say::text(b" Wh\n");
-    if let meter::Answer::Refused(reason) = made {
-        refused(reason);
-    }
 }
 
 // The energy comes in hundredths of a watt-second.
 pub fn exact(accepted: u64, energy: u64) {
-    say::field(b"samples accepted: ", accepted);
-    say::field(b"; their exact energy: ", energy / Meter::ONE_WH);
-    say::field(b" Wh and ", energy % Meter::ONE_WH);
-    say::text(b" hundredths of a watt-second, 360000 to the Wh\n");
+    say::sentence(
+        b"samples accepted: #; their exact energy: # Wh and # hundredths of a watt-second, 360000 to the Wh\n",
+        &[accepted, energy / Meter::ONE_WH, energy % Meter::ONE_WH],
+    );
 }
 
 pub fn exchange(request: &[u8], reply: &[u8]) {
@@ -36,52 +31,58 @@ pub fn exchange(request: &[u8], reply: &[u8]) {
 }
 
 pub fn unanswered(did: Reply) {
-    match did {
-        Reply::Refused(reason) => refused(reason),
-        _ => say::text(b"  silent\n"),
+    if let Reply::Refused(reason) = did {
+        refused(reason);
+    } else {
+        say::text(b"silent\n");
     }
 }
 
 pub fn unread(answer: Answer) {
-    match answer {
-        Answer::Refused(reason) => refused(reason),
-        Answer::Error(code) => say::error(code),
-        _ => {}
+    if let Answer::Refused(reason) = answer {
+        refused(reason);
+    } else if let Answer::Error(code) = answer {
+        say::error(code);
+        say::end();
     }
 }
 
 pub fn refused(reason: Refusal) {
-    say::text(b"  ");
     say::refused(reason);
     say::end();
 }
 
 pub fn count(count: Count, step: u32, wrap: u16) {
-    say::field(b"  read as count ", count.0 as u64);
-    say::field(b" in steps of ", step as u64);
-    say::field(b" Wh, and wrap ", wrap as u64);
-    say::end();
+    say::sentence(
+        b"  read as a count of # in steps of # Wh, and a wrap of #\n",
+        &[count.0 as u64, step as u64, wrap as u64],
+    );
 }
 
 pub fn halves(low: u32, high: u32) {
-    say::field(b"  read as Low ", low as u64);
-    say::field(b" and High ", high as u64);
-    say::end();
+    say::sentence(
+        b"  read as a Low of # and a High of #\n",
+        &[low as u64, high as u64],
+    );
 }
 
 // All in whole Wh: what the exact energy has beyond them is less than a Wh, and decides neither bound.
 pub fn bounds(joined: u64, exact: u64, step: u64) {
-    say::field(b"  joined: ", joined);
     let below = if joined <= exact { exact - joined } else { 0 };
-    bound(b" Wh\n  never above the exact ", exact, joined <= exact);
-    bound(b"  below it by less than ", step, below < step);
+    say::sentence(b"  joined: # Wh\n", &[joined]);
+    bound(b"  never above the exact # Wh: ", exact, joined <= exact);
+    bound(
+        b"  below it by less than one step, # Wh: ",
+        step,
+        below < step,
+    );
 }
 
 fn bound(what: &[u8], wh: u64, holds: bool) {
-    say::field(what, wh);
+    say::sentence(what, &[wh]);
     if holds {
-        say::text(b" Wh: yes\n");
+        say::text(b"yes\n");
     } else {
-        say::text(b" Wh: no\n");
+        say::text(b"no\n");
     }
 }

@@ -8,6 +8,9 @@ use refusal::Refusal;
 
 const LINE_FEED: u8 = 0x0A;
 
+// Where a number stands in a sentence.
+const MARK: u8 = b'#';
+
 pub fn text(t: &[u8]) {
     io::write_all(STDOUT_FILENO, t);
 }
@@ -20,6 +23,28 @@ pub fn number(n: u64) {
 pub fn field(name: &[u8], n: u64) {
     text(name);
     number(n);
+}
+
+// A sentence, with the numbers each in its place.
+pub fn sentence(words: &[u8], numbers: &[u64]) {
+    let mut at: usize = 0;
+    let mut told: usize = 0;
+    while at < words.len() {
+        let end = until(MARK, words, at);
+        text(&words[at..end]);
+        if end == words.len() {
+            return;
+        }
+        number_at(numbers, told);
+        told += 1;
+        at = end + 1;
+    }
+}
+
+fn number_at(numbers: &[u64], i: usize) {
+    if i < numbers.len() {
+        number(numbers[i]);
+    }
 }
 
 // The rows of paper 01's refusal table, shortened.
@@ -64,7 +89,7 @@ fn numbered(what: &[u8], n: u8, names: &[u8]) {
 pub fn name(names: &[u8], n: usize) {
     let start = line_start(names, n);
     if start < names.len() {
-        let end = line_end(names, start);
+        let end = until(LINE_FEED, names, start);
         text(&names[start..end]);
     } else {
         number(n as u64);
@@ -86,13 +111,14 @@ fn line_start(names: &[u8], line: usize) -> usize {
     i
 }
 
-fn line_end(names: &[u8], start: usize) -> usize
-    requires { ⌜ start ≤ length (now names) ⌝ }
-    ensures { λ r. ⌜ (start ≤ r) × (r ≤ length (now (names .entry))) ⌝ }
+// Where a byte next stands, or the end.
+fn until(byte: u8, t: &[u8], start: usize) -> usize
+    requires { ⌜ start ≤ length (now t) ⌝ }
+    ensures { λ r. ⌜ (start ≤ r) × (r ≤ length (now (t .entry))) ⌝ }
 {
     let mut i = start;
-    while i < names.len() {
-        if names[i] == LINE_FEED {
+    while i < t.len() {
+        if t[i] == byte {
             return i;
         }
         i += 1;

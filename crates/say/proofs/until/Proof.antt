@@ -1,15 +1,15 @@
--- Each turn leaves one byte fewer, and only goes on from where the line starts.
+-- Each turn leaves one byte fewer, and only goes on from the start.
 use Prim.Native.Nat.{_≤_, _-_}
 use lib.ListN.{length}
 use borrow.Author.Needs.{needs}
-use Rattle.say.proofs.line_end.Statement.{statement}
-use Rattle.say.proofs.line_end.Tie as tie
+use Rattle.say.proofs.until.Statement.{statement}
+use Rattle.say.proofs.until.Tie as tie
 
 abbrev Inv-loop : tie.InvT-loop
-Inv-loop names start i₀ i = (start ≤ i) × (i ≤ length names)
+Inv-loop byte t start i₀ i = (start ≤ i) × (i ≤ length t)
 
 abbrev μ-loop : tie.MeasureT-loop
-μ-loop names start i₀ i = length names - i
+μ-loop byte t start i₀ i = length t - i
 
 loop-holds : tie.Need-loop-holds Inv-loop μ-loop
 loop-holds c = search needs
@@ -32,8 +32,8 @@ loop-again c = search needs
 returns-2 : tie.Need-returns-2 Inv-loop μ-loop
 returns-2 c = search needs
 
-pub line-end-spec : {M : Type 1} → statement M
-line-end-spec =
+pub until-spec : {M : Type 1} → statement M
+until-spec =
     tie.close
     (tie.spec
     Inv-loop
