@@ -23,11 +23,10 @@ fn item(name: &[u8], request: &[u8], reply: &[u8], told: Ratios, index: usize) {
     say::end();
 }
 
-// The meter's codes are 01, 02 and 03.
 fn answer(a: Answer) {
     match a {
         Answer::Reading(q) => quantity(q),
-        Answer::Error(code) => say::field(b"error 0", code.number() as u64),
+        Answer::Error(code) => say::error(code),
         Answer::Refused(r) => say::refused(r),
     }
 }

@@ -1,0 +1,142 @@
+// One energy on its way from samples to the load on a feed: how a board and a collector call us. A new meter takes six minutes of
+// samples; then its +Ea is polled in each of its three places, read, joined, and held against the plain sum of the samples.
+mod tell;
+
+ghost use mathlib.Core.Path.{_≡_};
+ghost use Prim.Native.Nat.{_≤_};
+ghost use lib.ListN.{length};
+use board::Reply;
+use collector::Joined;
+use collector::Quantity;
+use collector::Ratios;
+use meter::Answer;
+use meter::Meter;
+use meter::samples::Powers;
+
+const REPLY_ROOM: usize = 256;
+
+// Reads of +Ea, with their CRC: two words from 0x0325, two from 0x101c, the wrap word of both at 0x1540, Low and High from 0x1500.
+const BYTE_REGISTER: [u8; 8] = [0x01, 0x03, 0x03, 0x25, 0x00, 0x02, 0xD5, 0x84];
+
+const WORD_REGISTER: [u8; 8] = [0x01, 0x03, 0x10, 0x1C, 0x00, 0x02, 0x01, 0x0D];
+
+const WRAP_WORD: [u8; 8] = [0x01, 0x03, 0x15, 0x40, 0x00, 0x01, 0x81, 0xD2];
+
+const LOW_AND_HIGH: [u8; 8] = [0x01, 0x03, 0x15, 0x00, 0x00, 0x04, 0x40, 0x05];
+
+// A sample covers one second. What a second adds, in hundredths of a watt-second, is the sum of its phases.
+const SECONDS: u64 = 360;
+
+const A_SECOND: u64 = 4_100_037 + 3_950_011 + 4_020_000;
+
+fn main() {
+    let ratios = Ratios { kta: 40, ktv: 10 };
+    let new = Meter::new(1, ratios);
+    tell::meter(ratios);
+    let after = six_minutes(new.meter);
+    let exact = after.accepted * A_SECOND;
+    tell::exact(after.accepted, exact);
+    three_places(after.meter, ratios, exact / Meter::ONE_WH);
+}
+
+struct Sampled {
+    meter: Meter,
+    accepted: u64,
+}
+
+// The board hands its meter a sample a second, up to the first that is refused.
+fn six_minutes(new: Meter) -> Sampled
+    ensures { λ r. ⌜ r .accepted ≤ 360 ⌝ }
+{
+    let mut sample = new.latest;
+    let p = Powers {
+        l1: 4_100_037,
+        l2: 3_950_011,
+        l3: 4_020_000,
+    };
+    sample.p = p;
+    let mut meter = new;
+    let mut accepted: u64 = 0;
+    while accepted < SECONDS {
+        let answered = meter.after(sample);
+        let answer = answered.answer;
+        if let Answer::Refused(reason) = answer {
+            tell::refused(reason);
+            return Sampled { meter, accepted };
+        }
+        meter = answered.meter;
+        accepted += 1;
+    }
+    Sampled { meter, accepted }
+}
+
+// Each beside the exact energy, in whole Wh.
+fn three_places(meter: Meter, ratios: Ratios, exact: u64) {
+    say::text(b"+Ea from the byte-addressed register\n");
+    register(meter, ratios, &BYTE_REGISTER, exact);
+    say::text(b"+Ea from the word register\n");
+    register(meter, ratios, &WORD_REGISTER, exact);
+    say::text(b"+Ea from the exact table\n");
+    halves(meter, ratios, exact);
+}
+
+// A register's count and the wrap word, joined.
+fn register(meter: Meter, ratios: Ratios, request: &[u8], exact: u64) {
+    let mut buffer = [0u8; REPLY_ROOM];
+    let n = poll(meter, request, &mut buffer);
+    let Quantity::Energy { count, step, wh: _ } = read(request, &buffer[..n], ratios, 0) else {
+        return;
+    };
+    let m = poll(meter, &WRAP_WORD, &mut buffer);
+    let Quantity::Wrap(wrap) = read(&WRAP_WORD, &buffer[..m], ratios, 0) else {
+        return;
+    };
+    tell::count(count, step, wrap);
+    load(collector::join(ratios, count, wrap), exact, step as u64);
+}
+
+// Low and High of one reply, joined.
+fn halves(meter: Meter, ratios: Ratios, exact: u64) {
+    let mut buffer = [0u8; REPLY_ROOM];
+    let n = poll(meter, &LOW_AND_HIGH, &mut buffer);
+    let Quantity::Low(low) = read(&LOW_AND_HIGH, &buffer[..n], ratios, 0) else {
+        return;
+    };
+    let Quantity::High(high) = read(&LOW_AND_HIGH, &buffer[..n], ratios, 1) else {
+        return;
+    };
+    tell::halves(low, high);
+    load(collector::join_halves(low, high), exact, 1);
+}
+
+// The board answers a request: so many bytes of the buffer. A read leaves the meter as it is, so the one handed back is not kept.
+fn poll(meter: Meter, request: &[u8], buffer: &mut [u8]) -> usize
+    requires { ⌜ length (now buffer) ≡ 256 ⌝ }
+    ensures { λ r. ⌜ (r ≤ 256) × (length (now (buffer .exit)) ≡ 256) ⌝ }
+{
+    let handled = board::handle(meter, request, buffer);
+    let did = handled.reply;
+    let Reply::Sent(n) = did else {
+        tell::unanswered(did);
+        return 0;
+    };
+    tell::exchange(request, &buffer[..n]);
+    n
+}
+
+// The collector reads one item of a reply. What is no reading is told, and goes on as a plain word, which is no part of an energy.
+fn read(request: &[u8], reply: &[u8], ratios: Ratios, index: usize) -> Quantity {
+    let answer = collector::read(request, reply, ratios, index);
+    let collector::Answer::Reading(quantity) = answer else {
+        tell::unread(answer);
+        return Quantity::Plain(0);
+    };
+    quantity
+}
+
+fn load(joined: Joined, exact: u64, step: u64) {
+    match joined {
+        Joined::Energy(wh) => tell::bounds(wh.0, exact, step),
+        Joined::Refused(reason) => tell::refused(reason),
+    }
+}
