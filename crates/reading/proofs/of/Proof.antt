@@ -1,11 +1,10 @@
 -- The upper byte of a B first; then by kind: what each arm gives is what the row and the list say of its kind.
 use mathlib.Core.Path.{_≡_, refl, sym, ap, _∙_}
-use mathlib.Core.Bool.{Bool, true, false, _&&_, cond}
-use Prim.Native.Nat.{ℕ, _-_, _*_, _/_, _%_, _^_, _<_}
+use mathlib.Core.Bool.{false, _&&_, cond}
+use Prim.Native.Nat.{ℕ, _-_, _*_, _%_, _^_, _<_}
 use native.Mathlib.Nat.{mul-le-mul}
 use native.Mathlib.Omega.{arith}
 use lib.Dec.{leb, ltb}
-use borrow.Author.Tests.{eqb-false}
 use Rattle.refusal.specs.declared.Refusal.the-variants.{ValueImpossible}
 use Rattle.signed.specs.declared.Signed.{Signed}
 use Rattle.counts.specs.Counting.{topCount}
