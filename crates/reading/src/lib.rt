@@ -1,7 +1,7 @@
 // What the words of an item read as (paper 01, "Collector"): a quantity in its unit, or refusal 13 for a value that no
 // meter shows. The kind of the item's quantity decides.
 ghost use mathlib.Core.Path.{_≡_};
-ghost use Prim.Native.Nat.{_*_, _-_, _/_, _^_, _<_, _≤_};
+ghost use Prim.Native.Nat.{_-_, _/_, _^_, _<_, _≤_};
 ghost use mathlib.Core.Bool.{true, false, not, cond};
 ghost use lib.Dec.{leb, ltb};
 ghost use Rattle.refusal.specs.declared.Refusal.the-variants.{ValueImpossible};
