@@ -5,13 +5,13 @@ mod tell;
 ghost use mathlib.Core.Path.{_≡_};
 ghost use Prim.Native.Nat.{_≤_};
 ghost use lib.ListN.{length};
+use board::Answer;
+use board::Meter;
+use board::Powers;
 use board::Reply;
 use collector::Joined;
 use collector::Quantity;
 use collector::Ratios;
-use meter::Answer;
-use meter::Meter;
-use meter::samples::Powers;
 
 const REPLY_ROOM: usize = 256;
 
@@ -70,7 +70,7 @@ fn six_minutes(new: Meter) -> Sampled
     Sampled { meter, accepted }
 }
 
-// Each beside the exact energy, in whole Wh.
+// Each place, compared with the exact energy in whole Wh.
 fn three_places(meter: Meter, ratios: Ratios, exact: u64) {
     say::text(b"+Ea from the byte-addressed register\n");
     register(meter, ratios, &BYTE_REGISTER, exact);
@@ -109,7 +109,8 @@ fn halves(meter: Meter, ratios: Ratios, exact: u64) {
     load(collector::join_halves(low, high), exact, 1);
 }
 
-// The board answers a request: so many bytes of the buffer. A read leaves the meter as it is, so the one handed back is not kept.
+// The board answers a request, and this the length of the reply, which stands in the buffer. A read leaves the meter as it is, so the
+// one handed back is not kept.
 fn poll(meter: Meter, request: &[u8], buffer: &mut [u8]) -> usize
     requires { ⌜ length (now buffer) ≡ 256 ⌝ }
     ensures { λ r. ⌜ (r ≤ 256) × (length (now (buffer .exit)) ≡ 256) ⌝ }
@@ -124,7 +125,8 @@ fn poll(meter: Meter, request: &[u8], buffer: &mut [u8]) -> usize
     n
 }
 
-// The collector reads one item of a reply. What is no reading is told, and goes on as a plain word, which is no part of an energy.
+// The collector reads one item of a reply. An error code or a refusal is told here, and handed on as a plain word, which its caller
+// does not take for part of an energy.
 fn read(request: &[u8], reply: &[u8], ratios: Ratios, index: usize) -> Quantity {
     let answer = collector::read(request, reply, ratios, index);
     let collector::Answer::Reading(quantity) = answer else {

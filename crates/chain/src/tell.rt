@@ -1,10 +1,10 @@
 // What happens on the way, in words.
+use board::Meter;
 use board::Reply;
 use collector::Answer;
 use collector::Count;
 use collector::Ratios;
 use collector::Refusal;
-use meter::Meter;
 
 pub fn meter(ratios: Ratios) {
     let step = ratio::energy_step(ratios.tenths());

@@ -2,7 +2,7 @@
 use mathlib.Core.Path.{_≡_, refl, _∙_}
 use mathlib.Core.Bool.{Bool, true, false}
 use mathlib.Core.List.{List, [], _∷_}
-use Prim.Native.Nat.{ℕ, zero, suc, _+_, _*_, _^_, _≤_, _<_}
+use Prim.Native.Nat.{ℕ, zero, suc, _+_, _≤_, _<_}
 use native.Mathlib.Omega.{arith}
 use lib.Dec.{T}
 use lib.ListN.{length, getD, take, drop, length-drop}
@@ -41,12 +41,6 @@ narrow-at its t i h = by (isL (getD its i none)) refl
     by : (l : Bool) → isL (getD its i none) ≡ l → Narrow (getD its i none)
     by true e = let two = eqb-true (getD its i none .words) 2 e in record { some = omega (arith, two); few = omega (arith, two) }
     by false e = let one = shape (getD its i none) (every-at shaped its t i h) .short e .0 in record { some = omega (arith, one); few = omega (arith, one) }
-
--- what n words hold
-pub value-fits : (l : List ℕ) → ((i : ℕ) → getD l i 0 < 256) → (n at : ℕ) → valueAt n l at < 65536 ^ n
-unfolding valueAt
-value-fits l bytes zero at = omega arith
-value-fits l bytes (suc n) at = omega (arith, value-fits l bytes n at, bytes (at + 2 * n), bytes (at + 2 * n + 1))
 
 -- ---- a run, and the items of it
 

@@ -4,7 +4,7 @@ use mathlib.Core.List.{List, [], _∷_, _++_, append-assoc}
 use Prim.Native.Nat.{ℕ, zero, suc, _+_, _*_, _/_, _%_, _^_, _≤_, _<_}
 use native.Mathlib.Nat.{add-zero, zero-add, zero-mul, mod-eq-of-lt, div-eq-of-lt, div-add-mod', div-lt-iff-lt-mul, pow-suc}
 use native.Mathlib.Omega.{arith}
-use lib.ListN.{length, set, take, drop, length-append}
+use lib.ListN.{length, getD, set, take, drop, length-append}
 use lib.Seq.{sets, sets-eq, length-take-le, getD-append-seam, getD-append-add}
 use Rattle.words.specs.Words.{word, sent, wordAt, valueAt, ByteSent, ReadBack}
 
@@ -24,6 +24,12 @@ length-sent (suc n) v = simp length-append (omega (arith, length-sent n (v / 655
 pub sent-word : (v : ℕ) → sent 1 v ≡ word (v % 65536)
 unfolding sent
 sent-word v = refl
+
+-- what n words hold
+pub value-fits : (l : List ℕ) → ((i : ℕ) → getD l i 0 < 256) → (n at : ℕ) → valueAt n l at < 65536 ^ n
+unfolding valueAt
+value-fits l bytes zero at = omega arith
+value-fits l bytes (suc n) at = omega (arith, value-fits l bytes n at, bytes (at + 2 * n), bytes (at + 2 * n + 1))
 
 pub byte-sent : ByteSent
 byte-sent =

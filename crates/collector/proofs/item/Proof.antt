@@ -13,7 +13,8 @@ use Rattle.directory.proofs.Flat.{items-length}
 use Rattle.directory.proofs.Order.{Narrow, every-at}
 use Rattle.reading.specs.Readings.{readingOf}
 use Rattle.collector.specs.Collector.{placeOf}
-use Rattle.collector.proofs.Places.{words-within, narrow-at, value-fits, item-past, item-reads}
+use Rattle.words.proofs.Laws.{value-fits}
+use Rattle.collector.proofs.Places.{words-within, narrow-at, item-past, item-reads}
 use borrow.Author.Needs.{needs}
 use Rattle.collector.proofs.item.Statement.{statement}
 use Rattle.collector.proofs.item.Tie as tie
