@@ -24,14 +24,26 @@ const WRAP_WORD: [u8; 8] = [0x01, 0x03, 0x15, 0x40, 0x00, 0x01, 0x81, 0xD2];
 
 const LOW_AND_HIGH: [u8; 8] = [0x01, 0x03, 0x15, 0x00, 0x00, 0x04, 0x40, 0x05];
 
-// A sample covers one second. What a second adds, in hundredths of a watt-second, is the sum of its phases.
-const SECONDS: u64 = 360;
+// The active power of each phase, in hundredths of a watt. A sample covers one second, and so adds their sum in hundredths of a
+// watt-second.
+const L1: i64 = 4_100_037;
 
-const A_SECOND: u64 = 4_100_037 + 3_950_011 + 4_020_000;
+const L2: i64 = 3_950_011;
+
+const L3: i64 = 4_020_000;
+
+const A_SECOND: u64 = (L1 + L2 + L3) as u64;
+
+const SECONDS: u64 = 360;
 
 fn main() {
     let ratios = Ratios { kta: 40, ktv: 10 };
     let new = Meter::new(1, ratios);
+    let answer = new.answer;
+    if let Answer::Refused(reason) = answer {
+        tell::refused(reason);
+        return;
+    }
     tell::meter(ratios);
     let after = six_minutes(new.meter);
     let exact = after.accepted * A_SECOND;
@@ -50,9 +62,9 @@ fn six_minutes(new: Meter) -> Sampled
 {
     let mut sample = new.latest;
     let p = Powers {
-        l1: 4_100_037,
-        l2: 3_950_011,
-        l3: 4_020_000,
+        l1: L1,
+        l2: L2,
+        l3: L3,
     };
     sample.p = p;
     let mut meter = new;

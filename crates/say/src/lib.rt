@@ -1,5 +1,5 @@
-// What the programs print with: text, numbers and names on standard output. It is no product code, and has no contracts: none can
-// say what is written.
+// What the programs print with: text, numbers and names on standard output. It is no product code, and no contract can say what is
+// written.
 ghost use Prim.Native.Nat.{_≤_};
 ghost use lib.ListN.{length};
 use libc::STDOUT_FILENO;
@@ -25,7 +25,7 @@ pub fn field(name: &[u8], n: u64) {
     number(n);
 }
 
-// A sentence, with the numbers each in its place.
+// A sentence, with each number at its mark.
 pub fn sentence(words: &[u8], numbers: &[u64]) {
     let mut at: usize = 0;
     let mut told: usize = 0;
