@@ -15,14 +15,14 @@ fn main() {
     io::write_all(STDOUT_FILENO, &text[..end]);
 }
 
-// 32 characters for each of 65,536 bytes.
+// Room for the text: 32 characters for each of 65,536 bytes of input.
 fn text_buffer() -> [u8; 2_097_152]
     ensures { λ r. ⌜ 2097152 ≡ length r ⌝ }
 {
     [0; 2_097_152]
 }
 
-// The whole text stands at the start of the buffer, which has room for it; answers where it ends.
+// Puts the whole text at the start of the buffer, which has room for it, and answers where it ends.
 fn answer(input: &[u8], text: &mut [u8]) -> usize
     requires { ⌜ (length (now input) ≤ 65536) × (2097152 ≡ length (now text)) ⌝ }
     ensures { λ r. ⌜ (r ≤ 2097152) × (take r (now (text .exit)) ≡ benchText (now (input .entry))) ⌝ }

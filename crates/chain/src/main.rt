@@ -121,7 +121,7 @@ fn halves(meter: Meter, ratios: Ratios, exact: u64) {
     load(collector::join_halves(low, high), exact, 1);
 }
 
-// The board answers a request, and this the length of the reply, which stands in the buffer. A read leaves the meter as it is, so the
+// The board's answer to a request: gives the length of the reply, which stands in the buffer. A read leaves the meter as it is, so the
 // one handed back is not kept.
 fn poll(meter: Meter, request: &[u8], buffer: &mut [u8]) -> usize
     requires { ⌜ length (now buffer) ≡ 256 ⌝ }

@@ -24,7 +24,7 @@ fn turns(buf: &mut [u8; 256], n: usize, times: u32, host: bool) -> u8 {
     buf[0]
 }
 
-// Each turn goes over a byte of the last one's result, so that none can be left out.
+// Each turn changes a byte by the result of the turn before, so that the compiler can leave none out.
 fn turn(buf: &mut [u8; 256], n: usize) {
     crc::put(buf, n);
     if n < 256 {

@@ -7,7 +7,7 @@ use ratio::Ratios;
 
 const READ_TURNS: u32 = 1000;
 
-// The items of one turn: from an index on, so many.
+// The items of one turn: the index of the first, and how many.
 const READ_FROM: usize = 0;
 
 const READ_ITEMS: usize = 28;

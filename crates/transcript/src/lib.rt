@@ -10,15 +10,16 @@ use lines::Line;
 use meter::Meter;
 use ratio::Ratios;
 
-// One byte more than any frame may have: what is cut off here was too long all the same, and the meter keeps silent.
+// One byte more than the longest frame. A longer one is cut here; what is left is still too long, and the meter keeps silent on it.
 const FRAME_ROOM: usize = 257;
 
 const REPLY_ROOM: usize = 256;
 
-// Data of 120 words is the longest reply for its line: 735 characters, with the line feed, for 23.
+// The characters that one byte of input may lead to. The longest answer for its line is data of 120 words: 735 characters, with the
+// line feed, to a request of 23.
 const ROOM_A_BYTE: usize = 32;
 
-// Where the answer to a line ends in the text, beside the meter that follows from the line.
+// The meter after a line, and where the answer to the line ends in the text.
 struct Told {
     meter: Meter,
     end: usize,
@@ -35,8 +36,7 @@ pub fn of(input: &[u8], text: &mut [u8]) -> usize
     run(input, text)
 }
 
-// One meter for all lines, so that what is written to it lasts. Behind the last line feed stands a line only if there are
-// bytes.
+// One meter answers all lines, so that a write lasts. The bytes behind the last line feed, if there are any, are a line too.
 fn run(input: &[u8], text: &mut [u8]) -> usize
     requires { ⌜ 32 * length (now input) ≤ length (now text) ⌝ }
     ensures { λ r. ⌜ r ≡ length (benchText (now (input .entry))) ⌝ }
@@ -58,7 +58,7 @@ fn run(input: &[u8], text: &mut [u8]) -> usize
     end
 }
 
-// Answers a line in the text, at a place.
+// Puts the answer to a line at a place of the text.
 fn answer(meter: Meter, line: &[u8], text: &mut [u8], at: usize) -> Told
     requires { ⌜ at + length (lineText meter (now line)) < length (now text) ⌝ }
     ensures { λ r. ⌜ (r .meter ≡ meterAfter meter (now (line .entry))) × (r .end ≡ at + length (lineText meter (now (line .entry)))) ⌝ }
@@ -77,7 +77,7 @@ fn answer(meter: Meter, line: &[u8], text: &mut [u8], at: usize) -> Told
     Told { meter: next, end }
 }
 
-// What the meter did. It refuses nothing here, since its record is within limits and the buffer has room.
+// Puts the reply, or that there is none. The meter refuses nothing here: its record is within limits and the buffer has room.
 fn tell(did: Reply, reply: &[u8], text: &mut [u8], at: usize) -> usize
     requires { ⌜ ((n : ℕ) → did ≡ Sent n → n ≤ length (now reply)) ⌝ }
     requires { ⌜ at + length (replyText did (now reply)) < length (now text) ⌝ }

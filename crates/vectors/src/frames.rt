@@ -12,7 +12,7 @@ pub fn examples() {
     misprints();
 }
 
-// A frame that is printed with another CRC than the rule gives: both.
+// A frame whose printed CRC is not the rule's: prints both.
 fn misprint(name: &[u8], frame: &[u8], printed: &[u8]) {
     let crc = crc::of(frame);
     say::text(name);
@@ -23,7 +23,7 @@ fn misprint(name: &[u8], frame: &[u8], printed: &[u8]) {
     say::end();
 }
 
-// A frame, and what a meter replies. Hands back the meter that follows.
+// Prints a frame and what a meter replies to it. Hands back the meter after it.
 fn ask(m: Meter, name: &[u8], frame: &[u8]) -> Meter {
     say::text(name);
     say::text(b",");

@@ -117,7 +117,7 @@ pub fn refusals() {
     of_a_frame();
 }
 
-// A record, and a sample.
+// A record out of limits, then a sample out of limits.
 fn out_of_limits() {
     let mut full = new();
     full.counters.active.positive.remainder = 360_000;

@@ -1,4 +1,4 @@
--- A magnitude below half of the full leaves the highest bit clear, and what it lacks to the full sets it.
+-- A magnitude below half of all values leaves the highest bit clear, and all values less such a magnitude have it set.
 use mathlib.Core.Path.{_≡_, refl}
 use mathlib.Core.Bool.{Bool, true, false, _&&_}
 use Prim.Native.Nat.{ℕ, zero, suc, _-_, _/_, _^_, _<_}

@@ -15,7 +15,7 @@ use borrow.Author.Needs.{needs}
 use Rattle.reading.proofs.factor.Statement.{statement}
 use Rattle.reading.proofs.factor.Tie as tie
 
--- what is read, of at most so many units
+-- what is read, where the magnitude is at most its top
 abbrev read : ℕ → ℕ → Signed → Answer
 read top unit s = cond (ltb top (s .magnitude)) (Refused ValueImpossible) (Reading (Factor (times unit s)))
 
