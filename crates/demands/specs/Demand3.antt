@@ -90,7 +90,7 @@ module _ (v : View) where
     pub joins : joinHalvesOf lows highs ≡ joined.Energy whole
     pub bounds : Bounds (exactAt e h) 1 (whole .0)
 
-  -- STATEMENT: demand 3, of an energy: an item of its register, wherever it stands, with its wrap, and its Low with its High, in either
+  -- an energy is read so: from an item of its register, wherever it stands, with its wrap, and from its Low with its High, in either
   -- order; between the two reads nothing is added to the exact energy
   pub record EnergyRead (h : History) (e : ℕ) : Type 0 where
     pub register-first :
@@ -107,6 +107,6 @@ module _ (v : View) where
         HalvesRead h e (collected (h .ratios) (later h) l) (collected (h .ratios) (sooner h) u)
     pub still : exactOf v e (sooner h) (h .between) ≡ 0
 
-  -- demand 3: each of the four energies, in any history
+  -- STATEMENT: demand 3: each of the four energies is read so, in any history
   abbrev pub Demand3 : Type 0
   Demand3 = (h : History) (e : ℕ) → e < 4 → EnergyRead h e
