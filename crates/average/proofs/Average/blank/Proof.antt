@@ -1,0 +1,14 @@
+-- All of it is 0.
+use mathlib.Core.Path.{refl}
+use borrow.Author.Needs.{needs}
+use Rattle.average.proofs.Average.blank.Statement.{statement}
+use Rattle.average.proofs.Average.blank.Tie as tie
+
+opened-requires : tie.Need-opened-requires
+opened-requires c κs = search needs
+
+returns : tie.Need-returns
+returns c = rw (c .opened .ensures) refl
+
+pub blank-spec : {M : Type 1} → statement M
+blank-spec = tie.close (tie.spec opened-requires returns)

@@ -1,0 +1,88 @@
+-- Paper 02, request 1: average power and its peak. A power is positive 3-phase P, in hundredths of W.
+use mathlib.Core.Path.{_≡_}
+use mathlib.Core.Logic.{_↔_}
+use Prim.Native.Nat.{ℕ, _+_, _*_, _/_, _≤_, _<_}
+use mathlib.Core.Bool.{Bool, true, _&&_, cond}
+use mathlib.Core.List.{[], _∷_}
+use lib.Dec.{leb, ltb, eqb}
+use lib.ListN.{getD}
+use Rattle.ratio.specs.Powers.{topPower, powerLimit}
+use Rattle.average.specs.declared.Window.{Window}
+use Rattle.average.specs.declared.Average.{Average}
+
+-- the minutes coded at 0x200a (0 to 6: 5, 8, 10, 15, 20, 30, 60); a code beyond, which no record within limits has, is read as 6
+unfoldable pub codedMinutes : ℕ → ℕ
+codedMinutes code = getD (5 ∷ 8 ∷ 10 ∷ 15 ∷ 20 ∷ 30 ∷ 60 ∷ []) code 60
+
+-- a window is these minutes times 60 accepted samples
+abbrev pub windowSeconds : ℕ → ℕ
+windowSeconds code = codedMinutes code * 60
+
+-- a window that is just opened
+abbrev pub noWindow : Window
+noWindow = record { seconds = 0; sum = 0 }
+
+-- on a new meter all are 0
+abbrev pub noAverage : Average
+noAverage = record { window = noWindow; last = 0; peak = 0 }
+
+-- the window with one second more
+abbrev pub joinedBy : Window → ℕ → Window
+joinedBy w power = record { seconds = w .seconds + 1; sum = w .sum + power }
+
+-- the average: the sum over its seconds, rounded down
+abbrev pub meanOf : Window → ℕ
+meanOf w = w .sum / w .seconds
+
+-- the larger of two
+abbrev pub larger : ℕ → ℕ → ℕ
+larger a b = cond (ltb a b) b a
+
+-- a full window sets the average, is the peak if its average is larger, and the next is opened
+abbrev pub closedBy : Average → Window → Average
+closedBy a full = record { window = noWindow; last = meanOf full; peak = larger (a .peak) (meanOf full) }
+
+-- the figures after a second: it joins the open window, and closes it where it fills it
+unfoldable pub afterSecond : ℕ → Average → ℕ → Average
+afterSecond code a power =
+    cond (ltb (a .window .seconds + 1) (windowSeconds code))
+    (record { window = joinedBy (a .window) power; last = a .last; peak = a .peak })
+    (closedBy a (joinedBy (a .window) power))
+
+-- a new window is opened, keeping average and peak
+abbrev pub openedOf : Average → Average
+openedOf a = record { window = noWindow; last = a .last; peak = a .peak }
+
+-- a code is stored: one that is changed also opens a new window
+abbrev pub recodedBy : ℕ → ℕ → Average → Average
+recodedBy before after a = cond (eqb before after) a (openedOf a)
+
+-- minutes are whole ones of the open window
+abbrev pub minutesOf : Average → ℕ
+minutesOf a = a .window .seconds / 60
+
+-- the figures are within limits at a ratio of t tenths, in windows of a code: open seconds below the window's, an open sum at most open
+-- seconds times the power limit, an average at most the peak, and a peak at most the power limit
+unfoldable pub averageOk : ℕ → ℕ → Average → Bool
+averageOk t code a =
+    ltb (a .window .seconds) (windowSeconds code) &&
+    leb (a .window .sum) (a .window .seconds * powerLimit t) &&
+    leb (a .last) (a .peak) &&
+    leb (a .peak) (powerLimit t)
+
+-- the same, limit by limit
+pub record AverageWithin (t code : ℕ) (a : Average) : Type 0 where
+  pub seconds : a .window .seconds < windowSeconds code
+  pub sum : a .window .sum ≤ a .window .seconds * powerLimit t
+  pub average : a .last ≤ a .peak
+  pub peak : a .peak ≤ powerLimit t
+
+-- STATEMENT: the figures are within limits exactly when none of request 1's four rows of refusal 1 is true of them
+pub record AverageLimits (t code : ℕ) (a : Average) : Type 0 where
+  pub when : (averageOk t code a ≡ true) ↔ AverageWithin t code a
+
+-- a second of a power has room in the figures: asked by the leaf that counts it, so that its sums fit
+pub record Joins (code : ℕ) (a : Average) (power : ℕ) : Type 0 where
+  pub seconds : a .window .seconds < windowSeconds code
+  pub sum : a .window .sum ≤ a .window .seconds * topPower
+  pub most : power ≤ topPower
