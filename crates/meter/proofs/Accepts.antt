@@ -16,6 +16,9 @@ use Rattle.ratio.specs.Ratios.{ratiosOk, tOf}
 use Rattle.ratio.specs.Powers.{powerLimit}
 use Rattle.counts.specs.Counting.{topWh}
 use Rattle.setup.specs.Ranges.{groupOk, wordOk}
+use Rattle.average.specs.declared.Average.{Average}
+use Rattle.average.specs.Windows.{codedMinutes, noAverage, afterSecond, recodedBy, averageOk}
+use Rattle.average.proofs.Limits.{blank-average, recoded-within, second-within}
 use Rattle.meter.specs.declared.samples.Sample.{Sample}
 use Rattle.meter.specs.declared.energies.Energy.{Energy}
 use Rattle.meter.specs.declared.energies.Energies.{Energies}
@@ -26,11 +29,11 @@ use Rattle.meter.specs.declared.Answered.{Answered}
 use Rattle.meter.specs.declared.Meter.{Meter}
 use Rattle.meter.specs.Samples.{inForce, sampleOk, noSample}
 use Rattle.meter.specs.Energies.{energyOk, energiesOk, countersOk, plusOf, withPower, withPowers, withinTop, countersWithinTop}
-use Rattle.meter.specs.Groups.{setupOk}
-use Rattle.meter.specs.Meters.{meterT, meterOk, blankOf, answerWith, answerTold, newOf, withSetup}
-use Rattle.meter.specs.After.{nextOf, meterWithinTop, afterOf}
-use Rattle.meter.specs.Accepts.{NewAnswers, SampleAnswers, SetupIdle}
-use Rattle.meter.proofs.Parts.{meter-parts, groups-within}
+use Rattle.meter.specs.Groups.{setupOk, codeOf}
+use Rattle.meter.specs.Meters.{meterT, meterOk, blankOf, answerWith, answerTold, newOf, withAverage, withSetup, setUpOf}
+use Rattle.meter.specs.After.{averageAfter, nextOf, meterWithinTop, afterOf}
+use Rattle.meter.specs.Accepts.{NewAnswers, SampleAnswers, other, SetupIdle, at299, CodeCounts}
+use Rattle.meter.proofs.Parts.{meter-parts, groups-within, above-most}
 use Rattle.meter.proofs.Cases.{chosen, after-accepted}
 use Rattle.meter.proofs.Outcomes.{by-number, firstOf, first-fails, second-fails, third-fails, none-fails, only-these, not-accepted}
 
@@ -95,7 +98,14 @@ counted-within c p q = λ i. powered-within (c .active) p i && powered-within (c
 next-within : (m : Meter) (s : Sample) → meterOk m ≡ true → sampleOk (meterT m) s ≡ true → meterWithinTop (nextOf m s) ≡ true → meterOk (nextOf m s) ≡ true
 next-within m s hm hs ht =
     let k = meter-parts m hm in
-    groups-within (nextOf m s) (record { given = k .given; counters = counted-within (m .counters) (inForce (s .p)) (inForce (s .q)) ∙ ht; latest = hs; setup = k .setup })
+    groups-within (nextOf m s)
+    (record {
+      given = k .given;
+      counters = counted-within (m .counters) (inForce (s .p)) (inForce (s .q)) ∙ ht;
+      latest = hs;
+      average = second-within (meterT m) (codeOf (m .setup)) (m .average) (aboveOf (inForce (s .p))) (k .average) (above-most m s hm hs);
+      setup = k .setup;
+    })
 
 kept : (a b c : Bool) (m n : Meter) → meterOk m ≡ true → (a ≡ true → b ≡ true → c ≡ true → meterOk n ≡ true) → meterOk (chosen a b c m n .meter) ≡ true
 kept true true true m n h k = k refl refl refl
@@ -114,13 +124,13 @@ blank-sample : (t : ℕ) → sampleOk t noSample ≡ true
 unfolding sampleOk
 blank-sample t = rw (le-leb 0 (powerLimit t) zero-le) refl
 
-trues : (b : Bool) → (b && true && true && true) ≡ b
+trues : (b : Bool) → (b && true && true && true && true) ≡ b
 trues true = refl
 trues false = refl
 
 blank-within : (a : ℕ) (r : Ratios) → meterOk (blankOf a r) ≡ (leb 1 a && ratiosOk r)
 unfolding meterOk groupOk wordOk
-blank-within a r = rw (blank-sample (tOf r)) (trues (leb 1 a && ratiosOk r))
+blank-within a r = rw (blank-sample (tOf r), blank-average (tOf r) 0) (trues (leb 1 a && ratiosOk r))
 
 -- what follows from the two tests of a new meter, in their order
 abbrev made : Bool → Bool → Meter → Answered
@@ -201,28 +211,65 @@ new-answers a r = record {
   within = new-within a r;
 }
 
--- ---- setup words have no effect
+-- ---- setup words
 
-module _ (m : Meter) (setup : Setup) where
-  abbrev other : Meter
-  other = withSetup m setup
+-- a setup in range that is stored keeps a record within limits
+pub set-up-within : (m : Meter) (setup : Setup) → meterOk m ≡ true → setupOk setup ≡ true → meterOk (setUpOf m setup) ≡ true
+set-up-within m setup hm hs =
+    let k = meter-parts m hm in
+    groups-within (setUpOf m setup)
+    (record {
+      given = k .given;
+      counters = k .counters;
+      latest = k .latest;
+      average = recoded-within (meterT m) (codeOf (m .setup)) (codeOf setup) (m .average) (k .average);
+      setup = hs;
+    })
 
-  pub other-within : meterOk m ≡ true → setupOk setup ≡ true → meterOk other ≡ true
-  other-within hm hs =
-      let k = meter-parts m hm in
-      groups-within other (record { given = k .given; counters = k .counters; latest = k .latest; setup = hs })
+module _ (m : Meter) (s : Sample) (setup : Setup) where
+  -- with any code and figures: the tests are the same, and the next meters alike but for the figures
+  module _ (a : Average) where
+    abbrev left : Answered → Answered → Answered
+    left mine theirs = answerWith (mine .answer) (withSetup (withAverage (mine .meter) (theirs .meter .average)) setup)
 
-  abbrev changed : Answered → Answered
-  changed r = record { answer = r .answer; meter = withSetup (r .meter) setup }
+    alike : (b c : Bool) → chosen true b c (other m setup a) (nextOf (other m setup a) s) ≡ left (chosen true b c m (nextOf m s)) (chosen true b c (other m setup a) (nextOf (other m setup a) s))
+    alike true true = refl
+    alike true false = refl
+    alike false c = refl
 
-  same : (b c : Bool) (n : Meter) → chosen true b c other (withSetup n setup) ≡ changed (chosen true b c m n)
-  same true true n = refl
-  same true false n = refl
-  same false c n = refl
+    any-code : meterOk m ≡ true → meterOk (other m setup a) ≡ true → afterOf (other m setup a) s ≡ left (afterOf m s) (afterOf (other m setup a) s)
+    unfolding afterOf
+    any-code hm ho = rw (hm, ho) (alike (sampleOk (meterT m) s) (meterWithinTop (nextOf m s)))
 
-  idle : (s : Sample) → meterOk m ≡ true → setupOk setup ≡ true → afterOf other s ≡ changed (afterOf m s)
-  unfolding afterOf
-  idle s hm hs = rw (hm, other-within hm hs) (same (sampleOk (meterT m) s) (meterWithinTop (nextOf m s)) (nextOf m s))
+  -- with the same code the figures are the same too
+  module _ (same : codeOf setup ≡ codeOf (m .setup)) where
+    same-within : meterOk m ≡ true → setupOk setup ≡ true → meterOk (withSetup m setup) ≡ true
+    same-within hm hs =
+        let k = meter-parts m hm in
+        let averages = ap (λ (code : ℕ). averageOk (meterT m) code (m .average)) same ∙ k .average in
+        groups-within (withSetup m setup) (record { given = k .given; counters = k .counters; latest = k .latest; average = averages; setup = hs })
 
-pub setup-idle : (m : Meter) (s : Sample) (setup : Setup) → SetupIdle m s setup
-setup-idle m s setup = record { sample = idle m setup s }
+    same-next : nextOf (withSetup m setup) s ≡ withSetup (nextOf m s) setup
+    same-next = ap (λ (code : ℕ). withSetup (withAverage (nextOf m s) (afterSecond code (m .average) (aboveOf (inForce (s .p))))) setup) same
+
+    abbrev changed : Answered → Answered
+    changed r = answerWith (r .answer) (withSetup (r .meter) setup)
+
+    moved : (b c : Bool) → chosen true b c (withSetup m setup) (withSetup (nextOf m s) setup) ≡ changed (chosen true b c m (nextOf m s))
+    moved true true = refl
+    moved true false = refl
+    moved false c = refl
+
+    same-code : meterOk m ≡ true → setupOk setup ≡ true → afterOf (withSetup m setup) s ≡ changed (afterOf m s)
+    unfolding afterOf
+    same-code hm hs =
+        rw (hm, same-within hm hs)
+        (ap (chosen true (sampleOk (meterT m) s) (meterWithinTop (nextOf m s)) (withSetup m setup)) same-next
+        ∙ moved (sampleOk (meterT m) s) (meterWithinTop (nextOf m s)))
+
+pub setup-idle : (m : Meter) (s : Sample) (setup : Setup) (a : Average) → SetupIdle m s setup a
+setup-idle m s setup a = record { words = λ hm hs same. same-code m s setup same hm hs; code = any-code m s setup a }
+
+pub code-counts : CodeCounts
+unfolding afterOf meterOk sampleOk averageOk groupOk wordOk codedMinutes afterSecond inForce powerLimit
+code-counts = record { within = (refl, refl); closes = refl; goes-on = refl }

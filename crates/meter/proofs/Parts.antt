@@ -7,10 +7,13 @@ use native.Mathlib.Omega.{arith}
 use lib.Dec.{leb, eqb}
 use lib.IntN.{natAbs}
 use borrow.Author.Tests.{leb-true, eqb-true}
+use Rattle.signed.specs.Signs.{aboveOf}
+use Rattle.signed.proofs.Sums.{above-le}
 use Rattle.ratio.specs.Ratios.{ktaOk, ktvOk, ratiosOk}
 use Rattle.ratio.specs.Powers.{powerLimit}
 use Rattle.ratio.proofs.Powers.{power-laws}
 use Rattle.counts.specs.Counting.{topWh}
+use Rattle.average.specs.Windows.{averageOk}
 use Rattle.meter.specs.declared.samples.Powers.{Powers}
 use Rattle.meter.specs.declared.samples.Sample.{Sample}
 use Rattle.meter.specs.declared.energies.Energy.{Energy}
@@ -19,7 +22,7 @@ use Rattle.meter.specs.declared.energies.Counters.{Counters}
 use Rattle.meter.specs.declared.Meter.{Meter}
 use Rattle.meter.specs.Samples.{sumOf, inForce, factorOf, phasesOk, powersOk, sampleOk}
 use Rattle.meter.specs.Energies.{energyOk, energiesOk, countersOk, ZeroToNeither}
-use Rattle.meter.specs.Groups.{setupOk}
+use Rattle.meter.specs.Groups.{setupOk, codeOf}
 use Rattle.meter.specs.Meters.{meterT, givenOk, meterOk}
 use Rattle.meter.specs.Fits.{Held, Room}
 
@@ -95,6 +98,7 @@ pub record MeterParts (m : Meter) : Type 0 where
   pub given : givenOk (m .given) ≡ true
   pub counters : countersOk (m .counters) ≡ true
   pub latest : sampleOk (meterT m) (m .latest) ≡ true
+  pub average : averageOk (meterT m) (codeOf (m .setup)) (m .average) ≡ true
   pub setup : setupOk (m .setup) ≡ true
 
 pub meter-parts : (m : Meter) → meterOk m ≡ true → MeterParts m
@@ -103,15 +107,17 @@ meter-parts m h =
     let g = givenOk (m .given) in
     let k = countersOk (m .counters) in
     let s = sampleOk (meterT m) (m .latest) in
-    let h3 = and-eq-true-iff (g && k && s) (setupOk (m .setup)) .0 h in
+    let a = averageOk (meterT m) (codeOf (m .setup)) (m .average) in
+    let h4 = and-eq-true-iff (g && k && s && a) (setupOk (m .setup)) .0 h in
+    let h3 = and-eq-true-iff (g && k && s) a .0 (h4 .0) in
     let h2 = and-eq-true-iff (g && k) s .0 (h3 .0) in
     let h1 = and-eq-true-iff g k .0 (h2 .0) in
-    record { given = h1 .0; counters = h1 .1; latest = h2 .1; setup = h3 .1 }
+    record { given = h1 .0; counters = h1 .1; latest = h2 .1; average = h3 .1; setup = h4 .1 }
 
 -- and back: a record whose groups are within limits is
 pub groups-within : (m : Meter) → MeterParts m → meterOk m ≡ true
 unfolding meterOk
-groups-within m k = λ i. k .given i && k .counters i && k .latest i && k .setup i
+groups-within m k = λ i. k .given i && k .counters i && k .latest i && k .average i && k .setup i
 
 -- what it was given
 module _ (m : Meter) (h : meterOk m ≡ true) where
@@ -161,6 +167,10 @@ module _ (m : Meter) (s : Sample) (hm : meterOk m ≡ true) (hs : sampleOk (mete
 
   pub held-q : Held (s .q)
   held-q = phases-held (meterT m) (s .q) (powers-phases (meterT m) (s .q) (sample-parts (meterT m) s hs .q))
+
+  -- what joins the open window is at most the power limit
+  pub above-most : aboveOf (inForce (s .p)) ≤ powerLimit (meterT m)
+  above-most = above-le (inForce (s .p)) (in-force-most (meterT m) (s .p) (sample-parts (meterT m) s hs .p))
 
   pub room : Room (m .counters .active) (inForce (s .p)) × Room (m .counters .reactive) (inForce (s .q))
   room =

@@ -1,4 +1,4 @@
--- Paper 01, "The meter's record": the limits of a record, and a new meter.
+-- Paper 01, "The meter's record": the limits of a record, and a new meter. Paper 02, request 1: the record gains the figures of `average`.
 use Prim.Native.Nat.{ℕ}
 use mathlib.Core.List.{List, [], _∷_}
 use mathlib.Core.Bool.{Bool, _&&_, not, cond}
@@ -8,6 +8,8 @@ use Rattle.refusal.specs.declared.Refusal.the-variants.{RatioOutOfLimits, OwnAd
 use Rattle.refusal.specs.Numbers.{refusalNumber, refusedBy}
 use Rattle.ratio.specs.declared.Ratios.{Ratios}
 use Rattle.ratio.specs.Ratios.{ratiosOk, tOf}
+use Rattle.average.specs.declared.Average.{Average}
+use Rattle.average.specs.Windows.{noAverage, recodedBy, averageOk}
 use Rattle.meter.specs.declared.energies.Energy.{Energy}
 use Rattle.meter.specs.declared.energies.Counters.{Counters}
 use Rattle.meter.specs.declared.samples.Sample.{Sample}
@@ -19,7 +21,7 @@ use Rattle.meter.specs.declared.Answer.the-variants.{Accepted, Refused}
 use Rattle.meter.specs.declared.Answered.{Answered}
 use Rattle.meter.specs.Energies.{noEnergy, countersOk, noCounters}
 use Rattle.meter.specs.Samples.{sampleOk, noSample}
-use Rattle.meter.specs.Groups.{setupOk, noSetup}
+use Rattle.meter.specs.Groups.{setupOk, noSetup, codeOf}
 
 -- T of a meter
 abbrev pub meterT : Meter → ℕ
@@ -29,17 +31,30 @@ meterT m = tOf (m .given .ratios)
 abbrev pub givenOk : Given → Bool
 givenOk g = leb 1 (g .address) && ratiosOk (g .ratios)
 
--- a record is within limits: own address and ratios, four energies, the latest sample at the record's T, setup groups
+-- a record is within limits: own address and ratios, four energies, the latest sample at the record's T, setup groups, and
+-- request 1's figures at that T and in windows of the record's code
 unfoldable pub meterOk : Meter → Bool
-meterOk m = givenOk (m .given) && countersOk (m .counters) && sampleOk (meterT m) (m .latest) && setupOk (m .setup)
+meterOk m =
+    givenOk (m .given) &&
+    countersOk (m .counters) &&
+    sampleOk (meterT m) (m .latest) &&
+    averageOk (meterT m) (codeOf (m .setup)) (m .average) &&
+    setupOk (m .setup)
 
 -- what a new meter is given
 abbrev pub givenOf : ℕ → Ratios → Given
 givenOf address ratios = record { address = address; ratios = ratios }
 
--- counters and remainders 0, setup words 0, sample 0 except sequence 1
+-- counters and remainders 0, setup words 0, sample 0 except sequence 1; request 1's figures 0
 abbrev pub blankOf : ℕ → Ratios → Meter
-blankOf address ratios = record { given = givenOf address ratios; counters = noCounters; latest = noSample; setup = noSetup }
+blankOf address ratios =
+    record {
+      given = givenOf address ratios;
+      counters = noCounters;
+      latest = noSample;
+      average = noAverage;
+      setup = noSetup;
+    }
 
 -- the four energies, in the paper's order: +Ea, -Ea, +Er, -Er
 abbrev pub energiesOf : Meter → List Energy
@@ -54,15 +69,27 @@ energyAt e m = getD (energiesOf m) e noEnergy
 
 -- a meter with other counters
 abbrev pub withCounters : Meter → Counters → Meter
-withCounters m counters = record { given = m .given; counters = counters; latest = m .latest; setup = m .setup }
+withCounters m counters =
+    record { given = m .given; counters = counters; latest = m .latest; average = m .average; setup = m .setup }
 
 -- a meter with another latest sample
 abbrev pub withLatest : Meter → Sample → Meter
-withLatest m sample = record { given = m .given; counters = m .counters; latest = sample; setup = m .setup }
+withLatest m sample =
+    record { given = m .given; counters = m .counters; latest = sample; average = m .average; setup = m .setup }
+
+-- a meter with other figures of request 1
+abbrev pub withAverage : Meter → Average → Meter
+withAverage m average =
+    record { given = m .given; counters = m .counters; latest = m .latest; average = average; setup = m .setup }
 
 -- a meter with another setup
 abbrev pub withSetup : Meter → Setup → Meter
-withSetup m setup = record { given = m .given; counters = m .counters; latest = m .latest; setup = setup }
+withSetup m setup =
+    record { given = m .given; counters = m .counters; latest = m .latest; average = m .average; setup = setup }
+
+-- a meter in which another setup is stored: one that changes the code at 0x200a also opens a new window
+abbrev pub setUpOf : Meter → Setup → Meter
+setUpOf m setup = withSetup (withAverage m (recodedBy (codeOf (m .setup)) (codeOf setup) (m .average))) setup
 
 -- an answer in numbers: 0 for accepted; the number of the refusal
 abbrev pub answerTold : Answer → List ℕ

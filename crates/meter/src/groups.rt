@@ -1,6 +1,7 @@
-// The setup groups (paper 01, "The meter's record"). A meter keeps them and sends them back; no measurement depends on them.
+// The setup groups (paper 01, "The meter's record"). A meter keeps them and sends them back; of its measurements only request 1's
+// averages depend on them, by the code of the window.
 ghost use mathlib.Core.Path.{_≡_};
-ghost use Rattle.meter.specs.Groups.{setupOk, noSetup};
+ghost use Rattle.meter.specs.Groups.{setupOk, noSetup, codeOf};
 
 pub struct Setup {
     // The words from 0x2000 on.
@@ -26,5 +27,13 @@ impl Setup {
         let standard = self.standard;
         let output = self.output;
         setup::standard_ok(standard) & setup::output_ok(output)
+    }
+
+    // The code of the window, at 0x200a.
+    pub(crate) fn code(self) -> u16
+        ensures { λ r. ⌜ r ≡ codeOf self ⌝ }
+    {
+        let standard = self.standard;
+        standard[10]
     }
 }

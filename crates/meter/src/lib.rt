@@ -1,4 +1,4 @@
-// The meter: its record, a new one, and what a sample makes of it (paper 01, "The meter's record").
+// The meter: its record, a new one, and what a sample makes of it (paper 01, "The meter's record"; its averages, paper 02, request 1).
 pub mod energies;
 pub mod given;
 pub mod groups;
@@ -8,8 +8,9 @@ ghost use mathlib.Core.Path.{_≡_};
 ghost use mathlib.Core.Bool.{true};
 ghost use Rattle.meter.specs.declared.Answer.the-variants.{Refused};
 ghost use Rattle.meter.specs.Samples.{sampleOk};
-ghost use Rattle.meter.specs.Meters.{meterT, meterOk, blankOf, answerWith, newOf};
+ghost use Rattle.meter.specs.Meters.{meterT, meterOk, blankOf, setUpOf, answerWith, newOf};
 ghost use Rattle.meter.specs.After.{nextOf, afterOf};
+use average::Average;
 use energies::Counters;
 use given::Given;
 use groups::Setup;
@@ -22,6 +23,7 @@ pub struct Meter {
     pub given: Given,
     pub counters: Counters,
     pub latest: Sample,
+    pub average: Average,
     pub setup: Setup,
 }
 
@@ -79,6 +81,7 @@ impl Meter {
             given: Given { address, ratios },
             counters: Counters::blank(),
             latest: Sample::blank(),
+            average: Average::blank(),
             setup: Setup::blank(),
         }
     }
@@ -96,9 +99,11 @@ impl Meter {
     pub fn within(self) -> bool
         ensures { λ r. ⌜ r ≡ meterOk self ⌝ }
     {
+        let t = self.given.ratios.tenths();
         self.given.within()
             & self.counters.within()
-            & self.latest.within(self.given.ratios.tenths())
+            & self.latest.within(t)
+            & self.average.within(t, self.setup.code())
             & self.setup.within()
     }
 
@@ -122,14 +127,26 @@ impl Meter {
         }
     }
 
-    // The meter with the sample as its latest, and the sample's powers added to its energies.
+    // The meter with the sample as its latest, its powers added to the energies, and its second to the open window.
     fn counted(self, sample: Sample) -> Meter
         requires { ⌜ (meterOk self ≡ true) × (sampleOk (meterT self) sample ≡ true) ⌝ }
         ensures { λ r. ⌜ r ≡ nextOf self sample ⌝ }
     {
         let mut next = self;
-        next.counters = self.counters.plus(sample.p.in_force(), sample.q.in_force());
+        let p = sample.p.in_force();
+        next.counters = self.counters.plus(p, sample.q.in_force());
         next.latest = sample;
+        next.average = self.average.after(self.setup.code(), p.above());
+        next
+    }
+
+    // The meter with another setup stored. A new code of the window opens a new window, though that lies outside the setup.
+    pub fn set_up(self, setup: Setup) -> Meter
+        ensures { λ r. ⌜ r ≡ setUpOf self setup ⌝ }
+    {
+        let mut next = self;
+        next.average = self.average.recoded(self.setup.code(), setup.code());
+        next.setup = setup;
         next
     }
 }

@@ -5,36 +5,44 @@ use borrow.Author.Needs.{needs}
 use Rattle.meter.proofs.Meter.within.Statement.{statement}
 use Rattle.meter.proofs.Meter.within.Tie as tie
 
+tenths-requires : tie.Need-tenths-requires
+tenths-requires c κs = search needs
+
 within-requires : tie.Need-within-requires
 within-requires c κs = search needs
 
 within-requires-2 : tie.Need-within-requires-2
 within-requires-2 c κs = search needs
 
-tenths-requires : tie.Need-tenths-requires
-tenths-requires c κs = search needs
-
 within-requires-3 : tie.Need-within-requires-3
 within-requires-3 c κs = search needs
+
+code-requires : tie.Need-code-requires
+code-requires c κs = search needs
 
 within-requires-4 : tie.Need-within-requires-4
 within-requires-4 c κs = search needs
 
+within-requires-5 : tie.Need-within-requires-5
+within-requires-5 c κs = search needs
+
 returns : tie.Need-returns
 unfolding meterOk
 returns c =
-    let s = c .before in
-    let t = s .before in
-    let k = t .before in
-    rw (k .before .within .ensures, k .within2 .ensures, s .within3 .ensures, t .tenths .ensures, c .within4 .ensures) refl
+    let a = c .before in
+    let k = a .before .before in
+    let g = k .before .before in
+    rw (g .within .ensures, k .before .within2 .ensures, k .within3 .ensures, a .within4 .ensures, a .before .code .ensures, c .within5 .ensures, g .before .tenths .ensures) refl
 
 pub within-spec : {M : Type 1} → statement M
 within-spec =
     tie.close
     (tie.spec
+    tenths-requires
     within-requires
     within-requires-2
-    tenths-requires
     within-requires-3
+    code-requires
     within-requires-4
+    within-requires-5
     returns)
