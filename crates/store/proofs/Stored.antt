@@ -9,7 +9,7 @@ use Rattle.setup.specs.Ranges.{groupOk}
 use Rattle.modbus.specs.Frame.{startOf, wordNumber, writeValues, writeShaped}
 use Rattle.meter.specs.declared.Meter.{Meter}
 use Rattle.meter.specs.Groups.{withStandard, withOutput}
-use Rattle.meter.specs.Meters.{withSetup}
+use Rattle.meter.specs.Meters.{setUpOf}
 use Rattle.store.specs.declared.Verdict.the-variants.{Good}
 use Rattle.store.specs.Writes.{toStandard, toOutput, wrongOf, writtenOf}
 
@@ -35,7 +35,7 @@ module _ (m : Meter) (frame : List ℕ) where
     unfolding writtenOf
     bad-16 n g = rw (h, s, eq-eqb (wordNumber frame) 16 n, group-at g) refl
 
-    pub good-16 : wordNumber frame ≡ 16 → groupOk 0x2000 (writeValues frame) ≡ true → record { verdict = Good; meter = withSetup m (withStandard (m .setup) (writeValues frame)) } ≡ writtenOf m frame
+    pub good-16 : wordNumber frame ≡ 16 → groupOk 0x2000 (writeValues frame) ≡ true → record { verdict = Good; meter = setUpOf m (withStandard (m .setup) (writeValues frame)) } ≡ writtenOf m frame
     unfolding writtenOf
     good-16 n g = rw (h, s, eq-eqb (wordNumber frame) 16 n, group-at g) refl
 
@@ -52,6 +52,6 @@ module _ (m : Meter) (frame : List ℕ) where
     unfolding writtenOf
     bad-24 n g = rw (h, s, o, eq-eqb (wordNumber frame) 24 n, output-at g) refl
 
-    pub good-24 : wordNumber frame ≡ 24 → groupOk 0x2200 (writeValues frame) ≡ true → record { verdict = Good; meter = withSetup m (withOutput (m .setup) (writeValues frame)) } ≡ writtenOf m frame
+    pub good-24 : wordNumber frame ≡ 24 → groupOk 0x2200 (writeValues frame) ≡ true → record { verdict = Good; meter = setUpOf m (withOutput (m .setup) (writeValues frame)) } ≡ writtenOf m frame
     unfolding writtenOf
     good-24 n g = rw (h, s, o, eq-eqb (wordNumber frame) 24 n, output-at g) refl

@@ -17,7 +17,7 @@ use Rattle.meter.specs.declared.Meter.{Meter}
 use Rattle.meter.specs.Groups.{setupOk}
 use Rattle.meter.specs.Meters.{meterOk}
 use Rattle.meter.proofs.Parts.{meter-parts}
-use Rattle.meter.proofs.Accepts.{other-within}
+use Rattle.meter.proofs.Accepts.{set-up-within}
 use Rattle.store.specs.declared.Verdict.{Verdict}
 use Rattle.store.specs.declared.Verdict.the-variants.{Good, Wrong}
 use Rattle.store.specs.declared.Written.{Written}
@@ -133,7 +133,7 @@ module _ (m : Meter) (frame : List ℕ) (hm : meterOk m ≡ true) (t : toGroup f
       rw s (λ i. groups .0 i && ranged 0x2200 o i)
 
   stored-within : meterOk (storedOf m frame) ≡ true
-  stored-within = other-within m (replacedIn (m .setup) frame) hm (replaced-within (toStandard frame) refl)
+  stored-within = set-up-within m (replacedIn (m .setup) frame) hm (replaced-within (toStandard frame) refl)
 
 by-verdict : (m : Meter) (frame : List ℕ) → meterOk m ≡ true → (v : Verdict) → writtenOf m frame .verdict ≡ v → meterOk (writtenOf m frame .meter) ≡ true
 by-verdict m frame h (Wrong code) e = ap meterOk (write-when m frame .kept code e) ∙ h

@@ -13,7 +13,7 @@ use Rattle.modbus.specs.Frame.{startOf, wordNumber, writeValues, writeShaped}
 use Rattle.meter.specs.declared.groups.Setup.{Setup}
 use Rattle.meter.specs.declared.Meter.{Meter}
 use Rattle.meter.specs.Groups.{withStandard, withOutput}
-use Rattle.meter.specs.Meters.{withSetup}
+use Rattle.meter.specs.Meters.{setUpOf}
 use Rattle.store.specs.declared.Verdict.{Verdict}
 use Rattle.store.specs.declared.Verdict.the-variants.{Good, Wrong}
 use Rattle.store.specs.declared.Written.{Written}
@@ -43,9 +43,9 @@ groupWords frame = cond (toStandard frame) 16 24
 abbrev pub replacedIn : Setup → List ℕ → Setup
 replacedIn s frame = cond (toStandard frame) (withStandard s (writeValues frame)) (withOutput s (writeValues frame))
 
--- the meter with that group stored, and nothing else changed
+-- the meter with that group stored and, where this changes the code at 0x200a, a new window opened; nothing else is changed
 abbrev pub storedOf : Meter → List ℕ → Meter
-storedOf m frame = withSetup m (replacedIn (m .setup) frame)
+storedOf m frame = setUpOf m (replacedIn (m .setup) frame)
 
 -- an error, and the record as it was
 abbrev pub wrongOf : Meter → ErrorCode → Written

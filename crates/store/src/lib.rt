@@ -3,7 +3,7 @@ ghost use mathlib.Core.Path.{_≡_};
 ghost use mathlib.Core.Bool.{true, false};
 ghost use Rattle.modbus.specs.Frame.{writeShaped};
 ghost use Rattle.meter.specs.Groups.{withStandard, withOutput};
-ghost use Rattle.meter.specs.Meters.{withSetup};
+ghost use Rattle.meter.specs.Meters.{setUpOf};
 ghost use Rattle.store.specs.Writes.{toStandard, toOutput, writtenOf, wrongOf};
 use meter::Meter;
 use refusal::ErrorCode;
@@ -63,13 +63,11 @@ fn write_standard(m: Meter, frame: &[u8]) -> Written
 }
 
 fn with_standard(m: Meter, group: [u16; 16]) -> Meter
-    ensures { λ r. ⌜ r ≡ withSetup m (withStandard (m .setup) group) ⌝ }
+    ensures { λ r. ⌜ r ≡ setUpOf m (withStandard (m .setup) group) ⌝ }
 {
     let mut changed = m.setup;
     changed.standard = group;
-    let mut next = m;
-    next.setup = changed;
-    next
+    m.set_up(changed)
 }
 
 // A write to the 24 words from 0x2200 on.
@@ -92,11 +90,9 @@ fn write_output(m: Meter, frame: &[u8]) -> Written
 }
 
 fn with_output(m: Meter, group: [u16; 24]) -> Meter
-    ensures { λ r. ⌜ r ≡ withSetup m (withOutput (m .setup) group) ⌝ }
+    ensures { λ r. ⌜ r ≡ setUpOf m (withOutput (m .setup) group) ⌝ }
 {
     let mut changed = m.setup;
     changed.output = group;
-    let mut next = m;
-    next.setup = changed;
-    next
+    m.set_up(changed)
 }

@@ -11,7 +11,7 @@ use Rattle.modbus.specs.Frame.{wordNumber, wordsAt, writeValues}
 use Rattle.modbus.proofs.Frames.{shaped-length}
 use Rattle.meter.specs.declared.Meter.{Meter}
 use Rattle.meter.specs.Groups.{withOutput}
-use Rattle.meter.specs.Meters.{withSetup}
+use Rattle.meter.specs.Meters.{setUpOf}
 use Rattle.store.specs.declared.Verdict.the-variants.{Good}
 use Rattle.store.proofs.Stored.{not-24, bad-24, good-24}
 use Rattle.store.proofs.write_output.Statement.{statement}
@@ -68,7 +68,7 @@ returns-3 : tie.Need-returns-3
 returns-3 c =
     let s = c .before .before .before .before .before .before .before .before .before in
     let n = number (c .before .before .before .before .before .before) in
-    let next = c .with-output .ensures ∙ ap (λ (g : List ℕ). withSetup (s .args .m) (withOutput (s .args .m .setup) g)) (stored (c .before .before .before .before)) in
+    let next = c .with-output .ensures ∙ ap (λ (g : List ℕ). setUpOf (s .args .m) (withOutput (s .args .m .setup) g)) (stored (c .before .before .before .before)) in
     let good = in-range (c .before .before) (not-false _ (c .before .if2 .left)) in
     ap (λ (m : Meter). record { verdict = Good; meter = m }) next ∙ good-24 (s .args .m) (s .args .frame .now) (s .pre .0) (s .pre .1) (s .pre .2) n good
 

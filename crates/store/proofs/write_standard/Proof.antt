@@ -11,7 +11,7 @@ use Rattle.modbus.specs.Frame.{wordNumber, wordsAt, writeValues}
 use Rattle.modbus.proofs.Frames.{shaped-length}
 use Rattle.meter.specs.declared.Meter.{Meter}
 use Rattle.meter.specs.Groups.{withStandard}
-use Rattle.meter.specs.Meters.{withSetup}
+use Rattle.meter.specs.Meters.{setUpOf}
 use Rattle.store.specs.declared.Verdict.the-variants.{Good}
 use Rattle.store.proofs.Stored.{not-16, bad-16, good-16}
 use Rattle.store.proofs.write_standard.Statement.{statement}
@@ -68,7 +68,7 @@ returns-3 : tie.Need-returns-3
 returns-3 c =
     let s = c .before .before .before .before .before .before .before .before .before in
     let n = number (c .before .before .before .before .before .before) in
-    let next = c .with-standard .ensures ∙ ap (λ (g : List ℕ). withSetup (s .args .m) (withStandard (s .args .m .setup) g)) (stored (c .before .before .before .before)) in
+    let next = c .with-standard .ensures ∙ ap (λ (g : List ℕ). setUpOf (s .args .m) (withStandard (s .args .m .setup) g)) (stored (c .before .before .before .before)) in
     let good = in-range (c .before .before) (not-false _ (c .before .if2 .left)) in
     ap (λ (m : Meter). record { verdict = Good; meter = m }) next ∙ good-16 (s .args .m) (s .args .frame .now) (s .pre .0) (s .pre .1) n good
 
