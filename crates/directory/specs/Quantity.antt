@@ -115,6 +115,13 @@ S = 8
 abbrev pub wholeS : ℕ
 wholeS = 9
 
+-- average of positive 3-phase P in the last full window, and its peak (request 1)
+abbrev pub average : ℕ
+average = 10
+
+abbrev pub peak : ℕ
+peak = 11
+
 -- energies, in the paper's order: +Ea, -Ea, +Er, -Er
 abbrev pub posEa : ℕ
 posEa = 0
@@ -135,7 +142,7 @@ hundredths = 0
 abbrev pub thousandths : ℕ
 thousandths = 1
 
--- plain words: zeros, the identifiers 0x11 and 0x1114, and the setup groups
+-- plain words: zeros, the identifiers 0x11 and 0x1114, the minutes, and the setup groups
 abbrev pub zeros : ℕ
 zeros = 0
 
@@ -145,25 +152,29 @@ byteIdentifier = 1
 abbrev pub wordIdentifier : ℕ
 wordIdentifier = 2
 
+-- whole minutes of the open window (request 1)
+abbrev pub minutes : ℕ
+minutes = 3
+
 -- the k-th setup word from 0x2000 on, and from 0x2200 on
 abbrev pub setup2000 : ℕ → ℕ
-setup2000 k = 3 + k
+setup2000 k = 4 + k
 
 abbrev pub setup2200 : ℕ → ℕ
-setup2200 k = 19 + k
+setup2200 k = 20 + k
 
 -- the bytes that each quantity takes, kind by kind and in the order above
 abbrev pub widths : List (List ℕ)
 widths =
     [] ∷
     -- voltage, current, power, signed power
-    replicate 6 4 ∷ replicate 4 4 ∷ replicate 10 4 ∷ replicate 8 4 ∷
+    replicate 6 4 ∷ replicate 4 4 ∷ replicate 12 4 ∷ replicate 8 4 ∷
     -- energy count, Low, High, wrap
     replicate 4 4 ∷ replicate 4 4 ∷ replicate 4 4 ∷ replicate 4 2 ∷
     -- factor, sign, sector, frequency
     (2 ∷ 4 ∷ []) ∷ replicate 8 1 ∷ (1 ∷ []) ∷ (2 ∷ []) ∷
     -- KTA, KTV, sequence, plain
-    (2 ∷ []) ∷ (2 ∷ []) ∷ (1 ∷ []) ∷ (1 ∷ 1 ∷ 2 ∷ replicate (16 + 24) 2) ∷
+    (2 ∷ []) ∷ (2 ∷ []) ∷ (1 ∷ []) ∷ (1 ∷ 1 ∷ 2 ∷ 1 ∷ replicate (16 + 24) 2) ∷
     []
 
 -- the bytes that a quantity takes; none where the number is no quantity

@@ -69,6 +69,11 @@ pub const S: u16 = 8;
 // S in whole VA, whatever the ratio.
 pub const WHOLE_S: u16 = 9;
 
+// The average of positive 3-phase P in the last full window, and its peak (request 1).
+pub const AVERAGE: u16 = 10;
+
+pub const PEAK: u16 = 11;
+
 // Which energy, in the paper's order: +Ea, -Ea, +Er, -Er.
 pub const POS_EA: u16 = 0;
 
@@ -83,14 +88,17 @@ pub const HUNDREDTHS: u16 = 0;
 
 pub const THOUSANDTHS: u16 = 1;
 
-// Which plain word: zeros, the identifiers 0x11 and 0x1114, and from FIRST_SETUP on the setup words of both groups.
+// Which plain word: zeros, the identifiers 0x11 and 0x1114, the whole minutes of the open window (request 1), and from
+// FIRST_SETUP on the setup words of both groups.
 pub const ZEROS: u16 = 0;
 
 pub const BYTE_IDENTIFIER: u16 = 1;
 
 pub const WORD_IDENTIFIER: u16 = 2;
 
-pub const FIRST_SETUP: u16 = 3;
+pub const MINUTES: u16 = 3;
+
+pub const FIRST_SETUP: u16 = 4;
 
 // The first word of each setup group; the others of the group follow it.
 pub const SETUP_2000: u16 = PLAIN + FIRST_SETUP;

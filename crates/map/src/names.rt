@@ -10,7 +10,12 @@ pub fn of(quantity: u16) {
         VOLTAGE => say::name(b" L1\n L2\n L3\n L1-L2\n L2-L3\n L3-L1\n", n),
         CURRENT => say::name(b" L1\n L2\n L3\n N\n", n),
         POWER | SIGNED_POWER | SIGN => {
-            say::name(b" P\n Q\n P1\n P2\n P3\n Q1\n Q2\n Q3\n S\n S\n", n)
+            say::name(
+                b" P\n Q\n P1\n P2\n P3\n Q1\n Q2\n Q3\n S\n S\n \
+                average of positive P, last full window\n \
+                peak of the average\n",
+                n,
+            )
         }
         ENERGY_COUNT | LOW | HIGH | WRAP => say::name(b" +Ea\n -Ea\n +Er\n -Er\n", n),
         PLAIN => plain(quantity),
@@ -45,7 +50,7 @@ fn of_kind(n: usize) {
 fn plain(quantity: u16) {
     if quantity < SETUP_2000 {
         say::name(
-            b"zero\nidentifier 0x11\nidentifier 0x1114\n",
+            b"zero\nidentifier 0x11\nidentifier 0x1114\nminutes of the open window\n",
             (quantity % 64) as usize,
         );
     } else if quantity < SETUP_2200 {

@@ -11,6 +11,7 @@ pub fn of(quantity: u16) {
         SIGNED_POWER => say::name(b"W\nvar\nW\nW\nW\nvar\nvar\nvar\n", n),
         LOW | HIGH => say::name(b"Wh\nWh\nvarh\nvarh\n", n),
         FACTOR => say::name(b"hundredths, signed\nthousandths, signed\n", n),
+        PLAIN => plain(which),
         _ => {}
     }
 }
@@ -34,12 +35,12 @@ fn of_kind(n: usize) {
         whole\n\
         tenths\n\
         1 or 2\n\
-        none\n",
+        \n",
         n,
     );
 }
 
-// P, Q and S go by the ratios, but for the S that is whole at any.
+// P, Q and S go by the ratios, but for the S that is whole at any; average and peak go as P does.
 fn power(n: usize) {
     say::name(
         b"0.01 W or 1 W\n\
@@ -51,7 +52,18 @@ fn power(n: usize) {
         0.01 var or 1 var\n\
         0.01 var or 1 var\n\
         0.01 VA or 1 VA\n\
-        1 VA\n",
+        1 VA\n\
+        0.01 W or 1 W\n\
+        0.01 W or 1 W\n",
         n,
     );
+}
+
+// A plain word has no unit, but for the minutes.
+fn plain(which: u16) {
+    if which == MINUTES {
+        say::text(b"whole minutes");
+    } else {
+        say::text(b"none");
+    }
 }

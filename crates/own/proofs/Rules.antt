@@ -13,7 +13,7 @@ use Rattle.directory.proofs.Flat.{items-length, flat, items-flat}
 use Rattle.directory.proofs.Views.{passes-ruled}
 use Rattle.own.specs.Table.{directory}
 use Rattle.own.specs.Own.{own, ownReach}
-use Rattle.own.specs.OwnRules.{OwnPasses, placesOf, ThreeTables}
+use Rattle.own.specs.OwnRules.{OwnPasses, placesOf, ThreeTables, AveragePlaces}
 use Rattle.own.specs.Kinds.{firstOfKind, KindsInOrder}
 
 -- THE TESTS of paper 01's own
@@ -24,7 +24,7 @@ passed = tt
 pub own-ruled : T (ruled directory)
 own-ruled = passes-ruled own passed
 
-directory-count : length directory ≡ 142
+directory-count : length directory ≡ 148
 unfolding directory
 directory-count = refl
 
@@ -36,7 +36,7 @@ module _ (reach : Reach) (whole : reach ≡ ownReach) where
   pub own-view : viewOf (flat directory) reach ≡ own
   own-view =
       ap (viewOf (flat directory)) whole
-      ∙ ap (λ (its : List Item). record { seen = its; most = own .most }) (ap (take 142) (items-flat directory) ∙ take-all 142 directory (omega (arith, directory-count)))
+      ∙ ap (λ (its : List Item). record { seen = its; most = own .most }) (ap (take 148) (items-flat directory) ∙ take-all 148 directory (omega (arith, directory-count)))
 
   pub own-lent : Lent (flat directory) reach
   own-lent = record {
@@ -47,6 +47,10 @@ module _ (reach : Reach) (whole : reach ≡ ownReach) where
 pub three-tables : ThreeTables
 unfolding placesOf directory
 three-tables = record { at-posEa = refl; at-posEr = refl; at-negEa = refl; at-negEr = refl }
+
+pub average-places : AveragePlaces
+unfolding placesOf directory
+average-places = record { at-average = refl; at-peak = refl; at-minutes = refl }
 
 pub kinds-in-order : KindsInOrder
 unfolding firstOfKind directory

@@ -1,9 +1,9 @@
--- Paper 01, "The directory": the 142 items, in the paper's blocks and order of addresses.
+-- Paper 01, "The directory": the 148 items, paper 01's 142 and request 1's six, in the paper's blocks and order of addresses.
 use Prim.Native.Nat.{ℕ, zero, suc, _+_}
 use mathlib.Core.List.{List, [], _∷_, _++_, map}
 use Rattle.directory.specs.declared.Item.{Item}
 use Rattle.directory.specs.Item.{item}
-use Rattle.directory.specs.Quantity.{quantity, voltage, current, power, signedPower, energyCount, low, high, wrap, factor, sign, sector, frequency, kta, ktv, sequence, plain, only, L1, L2, L3, L12, L23, L31, N, P, Q, P1, P2, P3, Q1, Q2, Q3, S, wholeS, posEa, negEa, posEr, negEr, hundredths, thousandths, zeros, byteIdentifier, wordIdentifier, setup2000, setup2200}
+use Rattle.directory.specs.Quantity.{quantity, voltage, current, power, signedPower, energyCount, low, high, wrap, factor, sign, sector, frequency, kta, ktv, sequence, plain, only, L1, L2, L3, L12, L23, L31, N, P, Q, P1, P2, P3, Q1, Q2, Q3, S, wholeS, average, peak, posEa, negEa, posEr, negEr, hundredths, thousandths, zeros, byteIdentifier, wordIdentifier, minutes, setup2000, setup2200}
 
 -- Byte block (004): addresses count bytes. L fills 4, W 2, B 1
 abbrev byteL : ℕ → ℕ → ℕ → Item
@@ -41,6 +41,8 @@ byteBlock =
     -- +Er, sign P, -Er, sign Q; zeros
     byteL 0x343 energyCount posEr ∷ byteB 0x347 sign P ∷ byteL 0x348 energyCount negEr ∷ byteB 0x34c sign Q ∷
     byteB 0x34d plain zeros ∷ byteB 0x34e plain zeros ∷ byteB 0x34f plain zeros ∷
+    -- request 1: average, peak, minutes
+    byteL 0x350 power average ∷ byteL 0x354 power peak ∷ byteB 0x358 plain minutes ∷
     -- neutral current; phase P and signs; phase Q and signs
     byteL 0x359 current N ∷
     byteL 0x35d power P1 ∷ byteL 0x361 power P2 ∷ byteL 0x365 power P3 ∷
@@ -62,6 +64,8 @@ wordBlocks =
     wordL 0x101c energyCount posEa ∷ wordL 0x101e energyCount posEr ∷ wordL 0x1020 energyCount negEa ∷ wordL 0x1022 energyCount negEr ∷
     -- power factor in hundredths, sector, frequency
     wordW 0x1024 factor hundredths ∷ wordW 0x1025 sector only ∷ wordW 0x1026 frequency only ∷
+    -- request 1: average, peak, minutes
+    wordL 0x1027 power average ∷ wordL 0x1029 power peak ∷ wordW 0x102b plain minutes ∷
     -- phase P and signs; phase Q and signs
     wordL 0x102c power P1 ∷ wordL 0x102e power P2 ∷ wordL 0x1030 power P3 ∷
     wordW 0x1032 sign P1 ∷ wordW 0x1033 sign P2 ∷ wordW 0x1034 sign P3 ∷

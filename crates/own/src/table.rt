@@ -1,8 +1,8 @@
-// Paper 01's 142 items, one a line: first address, addresses filled, words sent, quantity. In the byte block an L is 4, 2, a W is
-// 2, 1 and a B is 1, 1; in the word blocks an L is 2, 2 and a W is 1, 1. Laid out by hand.
+// The 148 items, paper 01's 142 and request 1's six, one a line: first address, addresses filled, words sent, quantity. In the
+// byte block an L is 4, 2, a W is 2, 1 and a B is 1, 1; in the word blocks an L is 2, 2 and a W is 1, 1. Laid out by hand.
 use directory::quantity::*;
 
-pub const TABLE: [u16; 568] = [
+pub const TABLE: [u16; 592] = [
     0x0100, 2, 1, KTA,
     0x0102, 2, 1, KTV,
     0x0300, 1, 1, PLAIN + BYTE_IDENTIFIER,
@@ -33,6 +33,10 @@ pub const TABLE: [u16; 568] = [
     0x034d, 1, 1, PLAIN + ZEROS,
     0x034e, 1, 1, PLAIN + ZEROS,
     0x034f, 1, 1, PLAIN + ZEROS,
+    // Request 1: average, peak, minutes.
+    0x0350, 4, 2, POWER + AVERAGE,
+    0x0354, 4, 2, POWER + PEAK,
+    0x0358, 1, 1, PLAIN + MINUTES,
     0x0359, 4, 2, CURRENT + N,
     0x035d, 4, 2, POWER + P1,
     0x0361, 4, 2, POWER + P2,
@@ -68,6 +72,10 @@ pub const TABLE: [u16; 568] = [
     0x1024, 1, 1, FACTOR + HUNDREDTHS,
     0x1025, 1, 1, SECTOR,
     0x1026, 1, 1, FREQUENCY,
+    // Request 1: average, peak, minutes.
+    0x1027, 2, 2, POWER + AVERAGE,
+    0x1029, 2, 2, POWER + PEAK,
+    0x102b, 1, 1, PLAIN + MINUTES,
     0x102c, 2, 2, POWER + P1,
     0x102e, 2, 2, POWER + P2,
     0x1030, 2, 2, POWER + P3,

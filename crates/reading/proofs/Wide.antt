@@ -68,7 +68,7 @@ kinds =
     (λ which h. absurd (omega (arith, h))) also
     fours 6 also
     fours 4 also
-    fours 10 also
+    fours 12 also
     fours 8 also
     fours 4 also
     fours 4 also
@@ -81,7 +81,7 @@ kinds =
     (λ which h. small-at (2 ∷ []) (omega arith, tt) which) also
     (λ which h. small-at (2 ∷ []) (omega arith, tt) which) also
     (λ which h. small-at (1 ∷ []) (omega arith, tt) which) also
-    (λ which h. small-at (1 ∷ 1 ∷ 2 ∷ replicate (16 + 24) 2) (omega arith, (omega arith, (omega arith, smalls (16 + 24) 2 (omega arith)))) which) also
+    (λ which h. small-at (1 ∷ 1 ∷ 2 ∷ 1 ∷ replicate (16 + 24) 2) (omega arith, (omega arith, (omega arith, (omega arith, smalls (16 + 24) 2 (omega arith))))) which) also
     tt
 
 -- what takes a byte is a quantity, of one of 16 kinds

@@ -57,7 +57,8 @@ signedIn n v = record { negative = negativeIn n v; magnitude = magnitudeIn n v }
 abbrev pub times : ℕ → Signed → Signed
 times n s = record { negative = s .negative; magnitude = s .magnitude * n }
 
--- a P, Q or S register in whole units is read times 100, as is S at 0x1530, as power in hundredths
+-- a P, Q or S register in whole units is read times 100, as is S at 0x1530, as power in hundredths; average and peak, in the P
+-- register's unit (request 1), go by the same
 abbrev pub unitOf : ℕ → ℕ → ℕ
 unitOf t which = cond (eqb which wholeS) 100 (powerUnit t)
 

@@ -56,7 +56,7 @@ pub enum Quantity {
     Ktv(u16),
     // Of the phases, 1 or 2.
     Sequence(u16),
-    // A word without a unit: an identifier, a zero or a setup word.
+    // A word as it stands: an identifier, a zero, minutes or a setup word.
     Plain(u16),
 }
 

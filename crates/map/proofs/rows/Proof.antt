@@ -1,14 +1,14 @@
--- Each turn leaves one item fewer of the 142.
+-- Each turn leaves one item fewer of the 148.
 use Prim.Native.Nat.{_≤_, _-_}
 use borrow.Author.Needs.{needs}
 use Rattle.map.proofs.rows.Statement.{statement}
 use Rattle.map.proofs.rows.Tie as tie
 
 abbrev Inv-loop : tie.InvT-loop
-Inv-loop block₀ i₀ t4 block i = i ≤ 142
+Inv-loop block₀ i₀ t4 block i = i ≤ 148
 
 abbrev μ-loop : tie.MeasureT-loop
-μ-loop block₀ i₀ t4 block i = 142 - i
+μ-loop block₀ i₀ t4 block i = 148 - i
 
 loop-holds : tie.Need-loop-holds Inv-loop μ-loop
 loop-holds c = search needs
