@@ -13,7 +13,8 @@ use Rattle.ratio.specs.Ratios.{ktaOk, ktvOk, ratiosOk}
 use Rattle.ratio.specs.Powers.{powerLimit}
 use Rattle.ratio.proofs.Powers.{power-laws}
 use Rattle.counts.specs.Counting.{topWh}
-use Rattle.average.specs.Windows.{averageOk}
+use Rattle.average.specs.Windows.{averageOk, minutesOf, AverageWithin}
+use Rattle.average.proofs.Limits.{average-parts, coded-fits}
 use Rattle.meter.specs.declared.samples.Powers.{Powers}
 use Rattle.meter.specs.declared.samples.Sample.{Sample}
 use Rattle.meter.specs.declared.energies.Energy.{Energy}
@@ -118,6 +119,17 @@ meter-parts m h =
 pub groups-within : (m : Meter) → MeterParts m → meterOk m ≡ true
 unfolding meterOk
 groups-within m k = λ i. k .given i && k .counters i && k .latest i && k .average i && k .setup i
+
+-- its figures of request 1, limit by limit; both averages are at most the power limit
+module _ (m : Meter) (h : meterOk m ≡ true) where
+  pub figures : AverageWithin (meterT m) (codeOf (m .setup)) (m .average)
+  figures = average-parts (meterT m) (codeOf (m .setup)) (m .average) (meter-parts m h .average)
+
+  pub last-most : m .average .last ≤ powerLimit (meterT m)
+  last-most = le-trans (figures .average) (figures .peak)
+
+  pub minutes-most : minutesOf (m .average) ≤ 59
+  minutes-most = omega (arith, figures .seconds, coded-fits (codeOf (m .setup)))
 
 -- what it was given
 module _ (m : Meter) (h : meterOk m ≡ true) where

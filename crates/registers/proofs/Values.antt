@@ -82,9 +82,18 @@ pub power-whole : (m : Meter) → getD (powerValues m) 9 0 ≡ m .latest .s / 10
 unfolding powerValues
 power-whole m = refl
 
-pub power-at : (m : Meter) (which : ℕ) → (which ≡ 8 → ⊥) → (which ≡ 9 → ⊥) → getD (powerValues m) which 0 ≡ powerRegister (meterT m) (powerAt m which .magnitude)
+pub power-average : (m : Meter) → getD (powerValues m) 10 0 ≡ powerRegister (meterT m) (m .average .last)
+unfolding powerValues
+power-average m = refl
+
+pub power-peak : (m : Meter) → getD (powerValues m) 11 0 ≡ powerRegister (meterT m) (m .average .peak)
+unfolding powerValues
+power-peak m = refl
+
+-- the signed powers: before the four others, or past them
+pub power-at : (m : Meter) (which : ℕ) → (8 ≤ which → 12 ≤ which) → getD (powerValues m) which 0 ≡ powerRegister (meterT m) (powerAt m which .magnitude)
 unfolding powerValues powerAt
-power-at m which not-s not-whole = by (ltb which 8) refl
+power-at m which apart = by (ltb which 8) refl
   where
     f : Signed → ℕ
     f p = powerRegister (meterT m) (p .magnitude)
@@ -93,14 +102,14 @@ power-at m which not-s not-whole = by (ltb which 8) refl
     none = record { negative = false; magnitude = 0 }
 
     rest : List ℕ
-    rest = powerRegister (meterT m) (m .latest .s) ∷ m .latest .s / 100 ∷ []
+    rest = powerRegister (meterT m) (m .latest .s) ∷ m .latest .s / 100 ∷ powerRegister (meterT m) (m .average .last) ∷ powerRegister (meterT m) (m .average .peak) ∷ []
 
     by : (t : Bool) → ltb which 8 ≡ t → getD (map f (powersOf m) ++ rest) which 0 ≡ f (getD (powersOf m) which none)
     by true h =
         List·getD-append (map f (powersOf m)) rest 0 which (ltb-true which 8 h)
         ∙ each f (powersOf m) which none (zero-div _)
     by false h =
-        List·getD-eq-default (map f (powersOf m) ++ rest) 0 {n = which} (omega (arith, ltb-false which 8 h, not-s, not-whole))
+        List·getD-eq-default (map f (powersOf m) ++ rest) 0 {n = which} (apart (ltb-false which 8 h))
         ∙ sym (ap f (List·getD-eq-default (powersOf m) none (ltb-false which 8 h)) ∙ zero-div _)
 
 -- the powers of a meter within limits are within the power limit
@@ -133,14 +142,15 @@ second-at a b i h = ap (λ (k : ℕ). getD (a ++ b) k 0) split ∙ getD-append-a
     split : i ≡ length a + (i - length a)
     split = omega (arith, h)
 
-pub plain-at : (m : Meter) (which : ℕ) → 3 ≤ which → getD (plainValues m) which 0 ≡ getD (m .setup .standard ++ m .setup .output) (which - 3) 0
+pub plain-at : (m : Meter) (which : ℕ) → 4 ≤ which → getD (plainValues m) which 0 ≡ getD (m .setup .standard ++ m .setup .output) (which - 4) 0
 unfolding plainValues
 plain-at m zero h = absurd (omega arith)
 plain-at m (suc zero) h = absurd (omega arith)
 plain-at m (suc (suc zero)) h = absurd (omega arith)
-plain-at m (suc (suc (suc k))) h = ap (λ (i : ℕ). getD (m .setup .standard ++ m .setup .output) i 0) back
+plain-at m (suc (suc (suc zero))) h = absurd (omega arith)
+plain-at m (suc (suc (suc (suc k)))) h = ap (λ (i : ℕ). getD (m .setup .standard ++ m .setup .output) i 0) back
   where
-    back : k ≡ suc (suc (suc k)) - 3
+    back : k ≡ suc (suc (suc (suc k))) - 4
     back = omega arith
 
 -- ---- kinds

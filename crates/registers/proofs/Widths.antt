@@ -5,14 +5,14 @@ use mathlib.Core.List.{List, [], _∷_, _++_}
 use Prim.Native.Nat.{ℕ, zero, suc, _+_, _/_, _%_, _^_, _≤_, _<_}
 use native.Mathlib.Nat.{lt-of-lt-of-le, pow-le-pow-right}
 use native.Mathlib.Omega.{arith}
-use lib.Dec.{T, eqb, leb}
-use borrow.Author.Tests.{eqb-true, eqb-false, leb-true}
+use lib.Dec.{T, eqb, leb, ltb}
+use borrow.Author.Tests.{eqb-true, eqb-false, leb-true, ltb-true, ltb-false}
 use lib.ListN.{length, getD, take, replicate, getD-replicate, length-append, List·getD-append}
 use Rattle.words.proofs.Signs.{twos-fits}
 use Rattle.signed.proofs.Signs.{sign-most}
 use Rattle.ratio.proofs.Powers.{powers-fit}
 use Rattle.counts.proofs.Joins.{counts-fit}
-use Rattle.directory.specs.Quantity.{quantity, energyCount, low, high, wrap, widths, widthOf}
+use Rattle.directory.specs.Quantity.{quantity, power, energyCount, low, high, wrap, plain, average, peak, minutes, setup2000, widths, widthOf}
 use Rattle.directory.specs.declared.Item.{Item}
 use Rattle.directory.specs.Item.{none}
 use Rattle.directory.specs.Order.{roomOf, tested}
@@ -22,10 +22,10 @@ use Rattle.meter.specs.declared.groups.Setup.{Setup}
 use Rattle.meter.specs.declared.Meter.{Meter}
 use Rattle.meter.specs.Samples.{factorOf}
 use Rattle.meter.specs.Meters.{meterT, meterOk, withSetup, energyAt}
-use Rattle.meter.proofs.Parts.{two-at-most, SampleParts, sample-parts, meter-parts, ratio-parts}
+use Rattle.meter.proofs.Parts.{two-at-most, SampleParts, sample-parts, meter-parts, figures, last-most, minutes-most, ratio-parts}
 use Rattle.registers.specs.Shown.{powerAt, powerValues, signedWordValues, signValues, countValues, lowValues, highValues, wrapValues, factorValues, plainValues, kindsShown, shownOf}
 use Rattle.registers.specs.Typed.{Typed, EveryCase, SetupUnseen}
-use Rattle.registers.proofs.Values.{count-at, low-at, high-at, wrap-at, energy-most, signed-at, sign-at, power-s, power-whole, power-at, power-most}
+use Rattle.registers.proofs.Values.{count-at, low-at, high-at, wrap-at, energy-most, signed-at, sign-at, power-s, power-whole, power-average, power-peak, power-at, power-most}
 
 -- values that fit their widths, one by one
 abbrev Fit : List ℕ → List ℕ → Type 0
@@ -124,6 +124,26 @@ module _ (m : Meter) (h : meterOk m ≡ true) where
     unfolding wrapValues
     wrap-shows = one-shows 8 2 e four (all-fit 2 4 (wrapValues m) refl wrap-fits) refl (omega arith)
 
+-- average, peak and minutes: of any record within limits too
+module _ (m : Meter) (h : meterOk m ≡ true) where
+  average-fits : getD (powerValues m) average 0 < 256 ^ 4
+  average-fits = rw (power-average m) (powers-fit .register (meterT m) (m .average .last) (last-most m h))
+
+  peak-fits : getD (powerValues m) peak 0 < 256 ^ 4
+  peak-fits = rw (power-peak m) (powers-fit .register (meterT m) (m .average .peak) (figures m h .peak))
+
+  pub average-shows : Shows m (quantity power average)
+  unfolding shownOf powerValues
+  average-shows = record { case = omega arith; fits = average-fits }
+
+  pub peak-shows : Shows m (quantity power peak)
+  unfolding shownOf powerValues
+  peak-shows = record { case = omega arith; fits = peak-fits }
+
+  pub minutes-shows : Shows m (quantity plain minutes)
+  unfolding shownOf plainValues
+  minutes-shows = record { case = omega arith; fits = omega (arith, minutes-most m h) }
+
 -- the others: of a record as a program holds it
 module _ (m : Meter) (typed : Typed m) (h : meterOk m ≡ true) where
   abbrev parts : SampleParts (meterT m) (m .latest)
@@ -131,16 +151,16 @@ module _ (m : Meter) (typed : Typed m) (h : meterOk m ≡ true) where
 
   -- registers of powers: by their case
   power-fits : (i : ℕ) → getD (powerValues m) i 0 < 256 ^ 4
-  power-fits i = by (eqb i 8) (eqb i 9) refl refl
+  power-fits i = by (eqb i 8) (eqb i 9) (eqb i 10) (eqb i 11) refl refl refl refl
     where
-      by : (a b : Bool) → eqb i 8 ≡ a → eqb i 9 ≡ b → getD (powerValues m) i 0 < 256 ^ 4
-      by true b e f =
-          rw (eqb-true i 8 e, power-s m) (powers-fit .register (meterT m) (m .latest .s) (parts .apparent))
-      by false true e f =
-          rw (eqb-true i 9 f, power-whole m) (omega (arith, powers-fit .signed (meterT m) (m .latest .s) (parts .apparent)))
-      by false false e f =
-          rw (power-at m i (eqb-false i 8 e) (eqb-false i 9 f))
-          (powers-fit .register (meterT m) (powerAt m i .magnitude) (power-most m i h))
+      by : (a b c d : Bool) → eqb i 8 ≡ a → eqb i 9 ≡ b → eqb i 10 ≡ c → eqb i 11 ≡ d → getD (powerValues m) i 0 < 256 ^ 4
+      by true b c d e f g k = rw (eqb-true i 8 e, power-s m) (powers-fit .register (meterT m) (m .latest .s) (parts .apparent))
+      by false true c d e f g k = rw (eqb-true i 9 f, power-whole m) (omega (arith, powers-fit .signed (meterT m) (m .latest .s) (parts .apparent)))
+      by false false true d e f g k = rw (eqb-true i 10 g) (average-fits m h)
+      by false false false true e f g k = rw (eqb-true i 11 k) (peak-fits m h)
+      by false false false false e f g k =
+          let apart : 8 ≤ i → 12 ≤ i = λ from. omega (arith, from, eqb-false i 8 e, eqb-false i 9 f, eqb-false i 10 g, eqb-false i 11 k) in
+          rw (power-at m i apart) (powers-fit .register (meterT m) (powerAt m i .magnitude) (power-most m i h))
 
   signed-fits : (i : ℕ) → getD (signedWordValues m) i 0 < 256 ^ 4
   signed-fits i =
@@ -157,13 +177,13 @@ module _ (m : Meter) (typed : Typed m) (h : meterOk m ≡ true) where
       let f = factorOf (m .latest .factor) in
       (twos-fits 1 (f .negative) (f .magnitude / 10) (omega (arith, parts .factor)), (twos-fits 2 (f .negative) (f .magnitude) (omega (arith, parts .factor)), tt))
 
-  plain-fits : Fit (plainValues m) (1 ∷ 1 ∷ 2 ∷ replicate (16 + 24) 2)
+  plain-fits : Fit (plainValues m) (1 ∷ 1 ∷ 2 ∷ 1 ∷ replicate (16 + 24) 2)
   unfolding plainValues
   plain-fits =
       let s = m .setup in
       let t = typed .setup in
       let long : length (s .standard ++ s .output) ≡ 40 = rw (length-append, t .standard .long, t .output .long) refl in
-      (omega arith, (omega arith, (omega arith, all-fit 2 40 (s .standard ++ s .output) long (append-fits 2 (s .standard) (s .output) (t .standard .word) (t .output .word)))))
+      (omega arith, (omega arith, (omega arith, (omega (arith, minutes-most m h), all-fit 2 40 (s .standard ++ s .output) long (append-fits 2 (s .standard) (s .output) (t .standard .word) (t .output .word))))))
 
   ratio-tops : (m .given .ratios .kta ≤ 9999) × (m .given .ratios .ktv ≤ 9999)
   ratio-tops =
@@ -177,7 +197,7 @@ module _ (m : Meter) (typed : Typed m) (h : meterOk m ≡ true) where
       tt also
       all-fit 4 6 (m .latest .voltages) (typed .latest .voltages) (typed .latest .voltage) also
       all-fit 4 4 (m .latest .currents) (typed .latest .currents) (typed .latest .current) also
-      all-fit 4 10 (powerValues m) refl power-fits also
+      all-fit 4 12 (powerValues m) refl power-fits also
       all-fit 4 8 (signedWordValues m) refl signed-fits also
       all-fit 4 4 (countValues m) refl (count-fits m h) also
       all-fit 4 4 (lowValues m) refl (low-fits m h) also
@@ -226,13 +246,29 @@ every-case m typed h = record {
   room = λ dir tests i l. in-room dir tests i l (fits m typed h (getD dir i none .quantity));
 }
 
-unseen : (m : Meter) (setup : Setup) (k : ℕ) → k < 16 → getD (kindsShown (withSetup m setup)) k [] ≡ getD (kindsShown m) k []
-unfolding powerValues signedWordValues signValues countValues lowValues highValues wrapValues
-unseen m setup k h =
-    let n = withSetup m setup in
-    List·getD-append (take 16 (kindsShown n)) (plainValues n ∷ []) [] k h
-    ∙ sym (List·getD-append (take 16 (kindsShown m)) (plainValues m ∷ []) [] k h)
+-- the kinds before plain words have no setup word among their values, nor have the first four plain words
+module _ (m : Meter) (setup : Setup) where
+  abbrev other : Meter
+  other = withSetup m setup
+
+  kinds-unseen : (k : ℕ) → k < 16 → getD (kindsShown other) k [] ≡ getD (kindsShown m) k []
+  unfolding powerValues signedWordValues signValues countValues lowValues highValues wrapValues
+  kinds-unseen k h =
+      List·getD-append (take 16 (kindsShown other)) (plainValues other ∷ []) [] k h
+      ∙ sym (List·getD-append (take 16 (kindsShown m)) (plainValues m ∷ []) [] k h)
+
+  plain-unseen : (which : ℕ) → which < 4 → getD (plainValues other) which 0 ≡ getD (plainValues m) which 0
+  unfolding plainValues
+  plain-unseen which h =
+      List·getD-append (take 4 (plainValues other)) (setup .standard ++ setup .output) 0 which h
+      ∙ sym (List·getD-append (take 4 (plainValues m)) (m .setup .standard ++ m .setup .output) 0 which h)
+
+  unseen : (q : ℕ) (k : Bool) → ltb (q / 64) 16 ≡ k → q < quantity plain (setup2000 0) → shownOf other q ≡ shownOf m q
+  unfolding shownOf
+  unseen q true e h = ap (λ (l : List ℕ). getD l (q % 64) 0) (kinds-unseen (q / 64) (ltb-true _ _ e))
+  unseen q false e h =
+      let kind : q / 64 ≡ 16 = omega (arith, h, ltb-false (q / 64) 16 e) in
+      rw kind (plain-unseen (q % 64) (omega (arith, h, kind)))
 
 pub setup-unseen : (m : Meter) (setup : Setup) → SetupUnseen m setup
-unfolding shownOf
-setup-unseen m setup = record { kinds = λ q h. ap (λ (l : List ℕ). getD l (q % 64) 0) (unseen m setup (q / 64) h) }
+setup-unseen m setup = record { others = λ q h. unseen m setup q (ltb (q / 64) 16) refl h }

@@ -8,6 +8,7 @@ use Rattle.signed.specs.declared.Signed.{Signed}
 use Rattle.signed.specs.Signs.{signedOf, signWord}
 use Rattle.ratio.specs.Powers.{powerRegister}
 use Rattle.counts.specs.Counting.{registerOf, wrapOf, lowOf, highOf}
+use Rattle.average.specs.Windows.{minutesOf}
 use Rattle.meter.specs.declared.energies.Energy.{Energy}
 use Rattle.meter.specs.declared.Meter.{Meter}
 use Rattle.meter.specs.Samples.{inForce, factorOf}
@@ -26,11 +27,13 @@ powersOf m =
 unfoldable pub powerAt : Meter → ℕ → Signed
 powerAt m which = getD (powersOf m) which (record { negative = false; magnitude = 0 })
 
--- P, Q, S registers hold a magnitude; S at 0x1530 in whole VA
+-- P, Q, S registers hold a magnitude; S at 0x1530 in whole VA; average and peak use the P register's unit (request 1)
 unfoldable pub powerValues : Meter → List ℕ
 powerValues m =
     map (λ (p : Signed). powerRegister (meterT m) (p .magnitude)) (powersOf m) ++
-    (powerRegister (meterT m) (m .latest .s) ∷ m .latest .s / 100 ∷ [])
+    (powerRegister (meterT m) (m .latest .s) ∷ m .latest .s / 100 ∷
+    powerRegister (meterT m) (m .average .last) ∷ powerRegister (meterT m) (m .average .peak) ∷
+    [])
 
 -- signed words are whole W or var, cut toward zero
 unfoldable pub signedWordValues : Meter → List ℕ
@@ -60,9 +63,9 @@ wrapValues m = map (λ (e : Energy). wrapOf (meterT m) (e .wh)) (energiesOf m)
 unfoldable pub factorValues : Signed → List ℕ
 factorValues f = factorHundredths (f .negative) (f .magnitude) ∷ factorThousandths (f .negative) (f .magnitude) ∷ []
 
--- plain words: zeros, the identifiers 0x11 and 0x1114, the setup words
+-- plain words: zeros, the identifiers 0x11 and 0x1114, the minutes of the open window (request 1), the setup words
 unfoldable pub plainValues : Meter → List ℕ
-plainValues m = 0 ∷ 0x11 ∷ 0x1114 ∷ (m .setup .standard ++ m .setup .output)
+plainValues m = 0 ∷ 0x11 ∷ 0x1114 ∷ minutesOf (m .average) ∷ (m .setup .standard ++ m .setup .output)
 
 -- what a meter shows, kind by kind in the order of paper 01's list of readings, from kind 1 on
 abbrev pub kindsShown : Meter → List (List ℕ)

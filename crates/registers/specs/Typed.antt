@@ -7,7 +7,7 @@ use lib.Dec.{T}
 use lib.ListN.{length, getD}
 use Rattle.directory.specs.declared.Item.{Item}
 use Rattle.directory.specs.Item.{none}
-use Rattle.directory.specs.Quantity.{plain, widthOf}
+use Rattle.directory.specs.Quantity.{quantity, plain, setup2000, widthOf}
 use Rattle.directory.specs.Order.{roomOf, tested}
 use Rattle.meter.specs.declared.samples.Sample.{Sample}
 use Rattle.meter.specs.declared.groups.Setup.{Setup}
@@ -47,6 +47,7 @@ pub record EveryCase (m : Meter) : Type 0 where
       (dir : List Item) → T (tested dir) → (i : ℕ) → i < length dir →
       shownOf m (getD dir i none .quantity) < 256 ^ roomOf (getD dir i none)
 
--- STATEMENT: setup words alter no measurement: what is shown of every other kind is the same with others
+-- STATEMENT: setup words alter nothing that a record shows, 0x200a nothing either: what is shown of every quantity but these words
+-- themselves, which are numbered last, is the same with others
 pub record SetupUnseen (m : Meter) (setup : Setup) : Type 0 where
-  pub kinds : (q : ℕ) → q / 64 < plain → shownOf (withSetup m setup) q ≡ shownOf m q
+  pub others : (q : ℕ) → q < quantity plain (setup2000 0) → shownOf (withSetup m setup) q ≡ shownOf m q

@@ -66,7 +66,8 @@ fn long_at(longs: &[u32], which: u16) -> u32
     if i < longs.len() { longs[i] } else { 0 }
 }
 
-// Registers of P, Q and S hold a magnitude in the unit that the ratio gives. One more register of S is in whole VA at any ratio.
+// Registers of P, Q and S, of the average and of its peak hold a magnitude in the unit that the ratio gives. One more register of
+// S is in whole VA at any ratio.
 fn power(m: Meter, which: u16) -> u32
     requires { ⌜ meterOk m ≡ true ⌝ }
     ensures { λ r. ⌜ r ≡ getD (powerValues m) which 0 ⌝ }
@@ -75,6 +76,8 @@ fn power(m: Meter, which: u16) -> u32
     match which {
         S => ratio::power_register(t, m.latest.s) as u32,
         WHOLE_S => (m.latest.s / ratio::WHOLE_UNIT) as u32,
+        AVERAGE => ratio::power_register(t, m.average.last) as u32,
+        PEAK => ratio::power_register(t, m.average.peak) as u32,
         _ => {
             let p = power_at(m, which);
             ratio::power_register(t, p.magnitude) as u32
@@ -197,6 +200,7 @@ fn plain(m: Meter, which: u16) -> u32
         ZEROS => 0,
         BYTE_IDENTIFIER => 0x11,
         WORD_IDENTIFIER => 0x1114,
+        MINUTES => m.average.minutes() as u32,
         _ => setup_at(m.setup, (which - FIRST_SETUP) as usize) as u32,
     }
 }
