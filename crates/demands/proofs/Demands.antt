@@ -6,15 +6,16 @@ use Rattle.words.proofs.Signs.{signed-back}
 use Rattle.lines.proofs.Texts.{text-back}
 use Rattle.counts.proofs.Joins.{join-split}
 use Rattle.directory.proofs.Rules.{directory-rules}
-use Rattle.own.proofs.Rules.{own-passes, three-tables, kinds-in-order}
+use Rattle.own.proofs.Rules.{own-passes, three-tables, average-places, kinds-in-order}
 use Rattle.directory.proofs.Bites.{tests-bite}
 use Rattle.directory.proofs.Sends.{run-sends}
 use Rattle.modbus.proofs.Judged.{read-when}
 use Rattle.reading.proofs.Told.{one-answer-each}
 use Rattle.collector.proofs.When as collector
 use Rattle.collector.proofs.Joins.{joins-when}
+use Rattle.average.proofs.Limits.{average-limits}
 use Rattle.meter.proofs.Parts.{zero-to-neither}
-use Rattle.meter.proofs.Accepts.{new-answers, sample-answers, setup-idle}
+use Rattle.meter.proofs.Accepts.{new-answers, sample-answers, setup-idle, code-counts}
 use Rattle.store.proofs.Verdicts.{write-when}
 use Rattle.registers.proofs.Widths.{every-case, setup-unseen}
 use Rattle.transcript.proofs.Written.{text-written}
@@ -55,6 +56,7 @@ ground = record {
   tests = tests-bite;
   kinds = kinds-in-order;
   places = three-tables;
+  average-places = average-places;
   runs = run-sends;
   lines = text-back;
 }
@@ -69,7 +71,9 @@ replies = record {
   writes = write-when;
   shown = every-case;
   zero = zero-to-neither;
+  averages = average-limits;
   setup-idle = setup-idle;
+  code-counts = code-counts;
   setup-unseen = setup-unseen;
 }
 

@@ -1,4 +1,4 @@
--- A frame alters setup words alone and a sample adds what it carries, so an energy is what it was plus the sum: event by event.
+-- A frame alters setup words and the open window alone, and a sample adds what it carries, so an energy is what it was plus the sum: event by event.
 use mathlib.Core.Path.{_≡_, refl, ap, _∙_}
 use mathlib.Core.Logic.{_⊎_, inl, inr}
 use mathlib.Core.Bool.{Bool, true, false, cond}
@@ -13,7 +13,7 @@ use Rattle.meter.specs.declared.groups.Setup.{Setup}
 use Rattle.meter.specs.declared.Meter.{Meter}
 use Rattle.meter.specs.Samples.{sampleOk}
 use Rattle.meter.specs.Energies.{valueOf}
-use Rattle.meter.specs.Meters.{meterT, meterOk, withSetup, energyAt}
+use Rattle.meter.specs.Meters.{meterT, meterOk, setUpOf, energyAt}
 use Rattle.meter.specs.After.{nextOf, meterWithinTop, afterOf}
 use Rattle.meter.specs.Carried.{carriesFor}
 use Rattle.meter.proofs.Cases.{chosen}
@@ -46,8 +46,8 @@ untaken-adds e m (Event.frame bytes b) h = refl
 module _ (v : View) (good : T (passes v)) where
   -- ---- a frame, and any event
 
-  -- what sees no setup words sees nothing of a frame
-  module _ {A : Type 0} (see : Meter → A) (blind : (m : Meter) (setup : Setup) → see (withSetup m setup) ≡ see m) where
+  -- what sees neither setup words nor the open window sees nothing of a frame
+  module _ {A : Type 0} (see : Meter → A) (blind : (m : Meter) (setup : Setup) → see (setUpOf m setup) ≡ see m) where
     altered-unseen : (m : Meter) (frame b : List ℕ) (n : Meter) → (n ≡ m) ⊎ (Heeds m frame b × Stores m frame × (n ≡ storedOf m frame)) → see n ≡ see m
     altered-unseen m frame b n (inl e) = ap see e
     altered-unseen m frame b n (inr s) = ap see (s .2) ∙ blind m (replacedIn (m .setup) frame)
@@ -71,7 +71,7 @@ module _ (v : View) (good : T (passes v)) where
   within m (x ∷ xs) h = within (afterEvent v m x) xs (event-within m x h)
 
   -- what neither sees is the same after any
-  module _ {A : Type 0} (see : Meter → A) (frames : (m : Meter) (setup : Setup) → see (withSetup m setup) ≡ see m) (samples : (m : Meter) (s : Sample) → see (nextOf m s) ≡ see m) where
+  module _ {A : Type 0} (see : Meter → A) (frames : (m : Meter) (setup : Setup) → see (setUpOf m setup) ≡ see m) (samples : (m : Meter) (s : Sample) → see (nextOf m s) ≡ see m) where
     event-unseen : (m : Meter) (x : Event) → see (afterEvent v m x) ≡ see m
     event-unseen m (Event.sample s) = sample-unseen see samples m s
     event-unseen m (Event.frame bytes b) = frame-unseen see frames m bytes b

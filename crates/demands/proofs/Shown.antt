@@ -113,7 +113,7 @@ module _ (m : Meter) (h : meterOk m ≡ true) where
 
   powers-read : ReadKind m 3
   unfolding powerValues powerMeanings
-  powers-read = few m 3 10 (refl, (refl, (refl, (refl, (refl, (refl, (refl, (refl, (refl, (refl, tt))))))))))
+  powers-read = few m 3 12 (refl, (refl, (refl, (refl, (refl, (refl, (refl, (refl, (refl, (refl, (refl, (refl, tt))))))))))))
 
   signed-read : ReadKind m 4
   unfolding signedWordValues signedMeanings powerAt

@@ -20,6 +20,7 @@ use Rattle.setup.specs.Ranges.{wordOk, groupOk}
 use Rattle.directory.specs.Quantity.{quantity, energyCount, wrap, posEa}
 use Rattle.directory.specs.Views.{View, passes}
 use Rattle.reading.specs.declared.Answer.{Answer}
+use Rattle.average.specs.Windows.{codedMinutes, afterSecond, averageOk}
 use Rattle.meter.specs.declared.Answer.the-variants.{Accepted}
 use Rattle.meter.specs.declared.samples.Powers.{Powers}
 use Rattle.meter.specs.declared.samples.Sample.{Sample}
@@ -108,11 +109,11 @@ module _ (v : View) (good : T (passes v)) where
   none-exact = refl
 
   one-exact : exactOf v posEa bare one ≡ 3600000
-  unfolding exactOf afterOf newOf meterOk sampleOk inForce powerLimit groupOk wordOk
+  unfolding exactOf afterOf newOf meterOk sampleOk inForce powerLimit groupOk wordOk averageOk afterSecond codedMinutes
   one-exact = refl
 
   two-exact : exactOf v posEa bare two ≡ 7200000
-  unfolding exactOf afterOf newOf meterOk sampleOk inForce powerLimit groupOk wordOk
+  unfolding exactOf afterOf newOf meterOk sampleOk inForce powerLimit groupOk wordOk averageOk afterSecond codedMinutes
   two-exact = refl
 
   ignores-samples : (figure : List Event → ℕ) → ((s : Sample) (xs : List Event) → figure (Event.sample s ∷ xs) ≡ figure xs) → KeepsBare v figure → ⊥

@@ -18,18 +18,20 @@ use Rattle.directory.specs.Order.{ruled, tested}
 use Rattle.directory.specs.Rules.{DirectoryRules}
 use Rattle.directory.specs.Run.{runIn, RunSends}
 use Rattle.directory.specs.Views.{View, passes}
-use Rattle.own.specs.OwnRules.{OwnPasses, ThreeTables}
+use Rattle.own.specs.OwnRules.{OwnPasses, ThreeTables, AveragePlaces}
 use Rattle.own.specs.Kinds.{KindsInOrder}
 use Rattle.directory.specs.Bites.{TestsBite}
 use Rattle.modbus.specs.Read.{ReadWhen}
 use Rattle.reading.specs.Told.{OneAnswerEach}
 use Rattle.collector.specs.When.{RepliesWhen, NotMisread, JoinsWhen}
+use Rattle.average.specs.declared.Average.{Average}
+use Rattle.average.specs.Windows.{AverageLimits}
 use Rattle.meter.specs.declared.samples.Sample.{Sample}
 use Rattle.meter.specs.declared.groups.Setup.{Setup}
 use Rattle.meter.specs.declared.Meter.{Meter}
 use Rattle.meter.specs.Energies.{ZeroToNeither}
 use Rattle.meter.specs.Meters.{meterOk}
-use Rattle.meter.specs.Accepts.{NewAnswers, SampleAnswers, SetupIdle}
+use Rattle.meter.specs.Accepts.{NewAnswers, SampleAnswers, SetupIdle, CodeCounts}
 use Rattle.store.specs.Writes.{WriteWhen}
 use Rattle.transcript.specs.Transcript.{TextWritten}
 use Rattle.registers.specs.Typed.{Typed, EveryCase, SetupUnseen}
@@ -85,6 +87,7 @@ pub record Ground : Type 0 where
   pub tests : TestsBite
   pub kinds : KindsInOrder
   pub places : ThreeTables
+  pub average-places : AveragePlaces
   pub runs :
       (dir : List Item) (start words first count : ℕ) → T (ruled dir) → runIn dir start words ≡ Items first count →
       RunSends dir words first count
@@ -100,7 +103,9 @@ pub record Replies : Type 0 where
   pub writes : (m : Meter) (frame : List ℕ) → WriteWhen m frame
   pub shown : (m : Meter) → Typed m → meterOk m ≡ true → EveryCase m
   pub zero : ZeroToNeither
-  pub setup-idle : (m : Meter) (s : Sample) (setup : Setup) → SetupIdle m s setup
+  pub averages : (t code : ℕ) (a : Average) → AverageLimits t code a
+  pub setup-idle : (m : Meter) (s : Sample) (setup : Setup) (a : Average) → SetupIdle m s setup a
+  pub code-counts : CodeCounts
   pub setup-unseen : (m : Meter) (setup : Setup) → SetupUnseen m setup
 
 -- STATEMENT: demand 2, its second half: the collector turns each reply into the one reading assigned, or the one refusal

@@ -27,11 +27,13 @@ roundedPower t x = powerRegister t x * powerUnit t
 abbrev pub cut : ℕ → Signed → Signed
 cut n s = record { negative = s .negative && ltb 0 (s .magnitude / n); magnitude = s .magnitude / n }
 
--- P, Q and S in hundredths, as their registers have them; S at 0x1530 in whole VA
+-- P, Q and S in hundredths, as their registers have them; S at 0x1530 in whole VA; average and peak as P (request 1)
 unfoldable pub powerMeanings : Meter → List Quantity
 powerMeanings m =
     map (λ (p : Signed). read.Power (roundedPower (meterT m) (p .magnitude))) (powersOf m) ++
-    (read.Power (roundedPower (meterT m) (m .latest .s)) ∷ read.Power (m .latest .s / 100 * 100) ∷ [])
+    (read.Power (roundedPower (meterT m) (m .latest .s)) ∷ read.Power (m .latest .s / 100 * 100) ∷
+    read.Power (roundedPower (meterT m) (m .average .last)) ∷ read.Power (roundedPower (meterT m) (m .average .peak)) ∷
+    [])
 
 -- signed power in whole units
 unfoldable pub signedMeanings : Meter → List Quantity
