@@ -17,7 +17,6 @@ use Rattle.directory.specs.Views.{View, passes}
 use Rattle.reading.specs.declared.Quantity.{Quantity}
 use Rattle.reading.specs.declared.Quantity.the-variants as read
 use Rattle.reading.specs.declared.Answer.the-variants.{Reading}
-use Rattle.collector.specs.Collector.{collectorIn}
 use Rattle.meter.specs.declared.energies.Energy.{Energy}
 use Rattle.meter.specs.declared.given.Given.{Given}
 use Rattle.meter.specs.declared.Meter.{Meter}
@@ -29,10 +28,9 @@ use Rattle.meter.proofs.Accepts.{made-within, new-blank}
 use Rattle.registers.proofs.Values.{energy-within, energy-most}
 use Rattle.registers.proofs.Widths.{Shows, count-shows, low-shows, high-shows, wrap-shows}
 use Rattle.demands.specs.Meaning.{countMeanings, lowMeanings, highMeanings, wrapMeanings, meanings, meaningOf}
-use Rattle.demands.specs.RoundTrip.{replyTo, Meets}
 use Rattle.demands.specs.Demand3.{History, sooner, later, exactAt, Poll, collected, RegisterRead, HalvesRead, Demand3}
 use Rattle.demands.proofs.Shown.{mapped}
-use Rattle.demands.proofs.Polls.{collects}
+use Rattle.demands.proofs.Polls.{poll-reads}
 use Rattle.demands.proofs.Histories.{after-events, idle-adds}
 
 -- ---- what the energies of a record mean
@@ -113,11 +111,7 @@ module _ (v : View) (good : T (passes v)) where
       same-t = ap (λ (g : Given). tOf (g .ratios)) (now .given)
 
       polled : {q : ℕ} (p : Poll v (h .address) q) → Shows m q → collected v (h .ratios) m p ≡ Reading (meaningOf m q)
-      polled p shows =
-          let meets : Meets m (p .request) (p .buffer) = record { within = now .within; room = p .room; own = ap (λ (g : Given). g .address) (now .given) ∙ sym (p .own) } in
-          ap (λ (g : Given). collectorIn v (p .request) (replyTo v m (p .request) (p .buffer)) (g .ratios) (p .index)) (sym (now .given))
-          ∙ collects v good m (p .request) (p .buffer) meets (p .asks) (p .index) (p .below) (rw (p .shows) shows)
-          ∙ ap (λ (x : ℕ). Reading (meaningOf m x)) (p .shows)
+      polled p shows = poll-reads v good m (now .within) (now .given) p shows
 
       counts : (p : Poll v (h .address) (quantity energyCount e)) → collected v (h .ratios) m p ≡ Reading (read.Energy (registerOf t whole) (stepOf t) (energyOf t (registerOf t whole .0)))
       counts p =

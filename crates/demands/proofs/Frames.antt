@@ -1,14 +1,14 @@
 -- All that is stated of the board, by its five outcomes and by what a heeded frame gives.
 use mathlib.Core.Path.{_≡_, refl, sym, ap, _∙_}
 use mathlib.Core.Logic.{_↔_, _⊎_, inl, inr}
-use mathlib.Core.Bool.{true, false, false≢true}
+use mathlib.Core.Bool.{Bool, true, false, cond, false≢true}
 use mathlib.Core.List.{List}
 use Prim.Native.Nat.{ℕ, _≤_, _<_}
 use native.Mathlib.Omega.{arith}
 use lib.Dec.{T}
 use lib.ListN.{length, take, drop}
 use lib.Seq.{sets}
-use borrow.Author.Tests.{lt-ltb, le-ltb}
+use borrow.Author.Tests.{lt-ltb, le-ltb, eq-eqb, ne-eqb}
 use Rattle.refusal.specs.declared.Refusal.{Refusal}
 use Rattle.refusal.specs.declared.ErrorCode.{ErrorCode}
 use Rattle.refusal.specs.declared.ErrorCode.the-variants.{Function, Address, Data}
@@ -16,17 +16,20 @@ use Rattle.refusal.specs.Numbers.{errorNumber, refusedBy}
 use Rattle.refusal.proofs.Distinct.{one-reason-each, caseIn, numberIn}
 use Rattle.crc.specs.Crc.{intact}
 use Rattle.directory.specs.Views.{View, passes}
-use Rattle.modbus.specs.Frame.{silence, isRead, isWrite}
+use Rattle.modbus.specs.Frame.{silence, isRead, isWrite, writeValues}
 use Rattle.modbus.specs.Replies.{errorReply}
 use Rattle.modbus.proofs.Judged.{read-when}
 use Rattle.modbus.proofs.Stores.{sets-taken}
+use Rattle.average.specs.Windows.{openedOf, recodedBy}
+use Rattle.meter.specs.declared.groups.Setup.{Setup}
 use Rattle.meter.specs.declared.Meter.{Meter}
+use Rattle.meter.specs.Groups.{codeOf, withStandard, withOutput}
 use Rattle.meter.specs.Meters.{meterOk}
 use Rattle.board.specs.declared.Reply.{Reply}
 use Rattle.board.specs.declared.Reply.the-variants.{Silent, Sent, Refused}
-use Rattle.store.specs.Writes.{storedOf, verdictTold}
+use Rattle.store.specs.Writes.{toStandard, storedOf, verdictTold}
 use Rattle.board.specs.Board.{Outcome, replyTold, boardIn}
-use Rattle.demands.specs.Frames.{Heeds, Answers, SendsError, ReadErrs, WriteErrs, Quiet, Stores, FrameGives, FramesWhen, Obeys, Untouched, RepliesSealed, BufferUnseen}
+use Rattle.demands.specs.Frames.{Heeds, Answers, SendsError, ReadErrs, WriteErrs, Quiet, Stores, Altered, FrameGives, FramesWhen, Obeys, Untouched, WindowOpened, RepliesSealed, BufferUnseen}
 use Rattle.board.proofs.Lengths.{board-short}
 use Rattle.board.proofs.Cases.{board-1, board-2, board-silent}
 use Rattle.store.proofs.Verdicts.{write-when, write-within}
@@ -64,6 +67,10 @@ told-as e h = sym (ap (λ (o : Outcome). replyTold (said o)) e) ∙ h
 -- two cases of other numbers
 apart {ℓ} : {A : Type ℓ} {x y : Reply} → (caseIn (replyTold x) ≡ caseIn (replyTold y) → ⊥) → x ≡ y → A
 apart n e = absurd (n (ap (λ (r : Reply). caseIn (replyTold r)) e))
+
+-- a record after a frame: as it was, or with a legal write stored
+abbrev pub Kept : Meter → List ℕ → List ℕ → Meter → Type 0
+Kept m frame b n = (n ≡ m) ⊎ (Heeds m frame b × Stores m frame × (n ≡ storedOf m frame))
 
 five : (frame : List ℕ) (code : ErrorCode) → length (errorReply frame code) ≡ 5
 five frame code = refl
@@ -172,10 +179,7 @@ module _ (v : View) (good : T (passes v)) where
   -- ---- what stays as it was
 
   module _ (m : Meter) (frame b : List ℕ) where
-    abbrev Kept : Meter → Type 0
-    Kept n = (n ≡ m) ⊎ (Heeds m frame b × Stores m frame × (n ≡ storedOf m frame))
-
-    gives-kept : (bytes : List ℕ) (n : Meter) → Heeds m frame b → Gives v m frame bytes n → Kept n
+    gives-kept : (bytes : List ℕ) (n : Meter) → Heeds m frame b → Gives v m frame bytes n → Kept m frame b n
     gives-kept bytes n h (other r w e k) = inl k
     gives-kept bytes n h (misread code r s e k) = inl k
     gives-kept bytes n h (shows first count r s e k) = inl k
@@ -238,6 +242,25 @@ module _ (v : View) (good : T (passes v)) where
     altered (for-all bytes n h z g e) = rw e (gives-kept m frame b bytes n h g)
     altered (for-one bytes n a g e) = rw e (gives-kept m frame b bytes n (a .heeds) g)
 
+    -- what becomes of the record
+    pub kept : Kept m frame b (boardIn v m frame b .handled .meter)
+    kept = altered (case v m frame b)
+
+    alters : (n : Meter) → Kept m frame b n → (n ≡ m) ⊎ Altered m frame b n
+    alters n (inl e) = inl e
+    alters n (inr s) =
+        let setup = ap (λ (x : Meter). x .setup) (s .2) in
+        inr
+        (record {
+          heeds = s .0;
+          stores = s .1;
+          group = setup;
+          window = ap (λ (x : Meter). x .average) (s .2) ∙ ap (λ (x : Setup). recodedBy (codeOf (m .setup)) (codeOf x) (m .average)) (sym setup);
+          given = ap (λ (x : Meter). x .given) (s .2);
+          counters = ap (λ (x : Meter). x .counters) (s .2);
+          latest = ap (λ (x : Meter). x .latest) (s .2);
+        })
+
     pub untouched : Untouched v m frame b
     untouched =
         record {
@@ -245,9 +268,36 @@ module _ (v : View) (good : T (passes v)) where
           unheard = unheeded (case v m frame b);
           silent = silent (case v m frame b);
           beyond = λ n h. beyond n (sent (case v m frame b) n h);
-          altered = altered (case v m frame b);
+          altered = alters _ kept;
           for-all = λ n z h. sent (case v m frame b) n h .answers .own z;
         }
+
+    -- by the code before and after
+    abbrev Opens : Meter → Type 0
+    Opens n =
+        ((codeOf (n .setup) ≡ codeOf (m .setup) → ⊥) → n .average ≡ openedOf (m .average))
+        × (codeOf (n .setup) ≡ codeOf (m .setup) → n .average ≡ m .average)
+        × ((codeOf (n .setup) ≡ codeOf (m .setup) → ⊥) → Heeds m frame b × Stores m frame × (toStandard frame ≡ true))
+
+    opens : (n : Meter) → (n ≡ m) ⊎ Altered m frame b n → Opens n
+    opens n (inl e) =
+        let same = ap (λ (x : Meter). codeOf (x .setup)) e in
+        (λ changed. absurd (changed same), λ c. ap (λ (x : Meter). x .average) e, λ changed. absurd (changed same))
+    opens n (inr a) = (
+      λ changed. a .window ∙ ap (λ (t : Bool). cond t (m .average) (openedOf (m .average))) (ne-eqb _ _ (λ e. changed (sym e))),
+      λ same. a .window ∙ ap (λ (t : Bool). cond t (m .average) (openedOf (m .average))) (eq-eqb _ _ (sym same)),
+      λ changed. (a .heeds, a .stores, standard (toStandard frame) refl changed),
+    )
+      where
+        standard : (t : Bool) → toStandard frame ≡ t → (codeOf (n .setup) ≡ codeOf (m .setup) → ⊥) → toStandard frame ≡ true
+        standard true e changed = e
+        standard false e changed =
+            absurd (changed (ap codeOf (a .group) ∙ ap (λ (t : Bool). codeOf (cond t (withStandard (m .setup) (writeValues frame)) (withOutput (m .setup) (writeValues frame)))) e))
+
+    pub window-opened : WindowOpened v m frame b
+    window-opened =
+        let o = opens _ (untouched .altered) in
+        record { opened = o .0; kept = o .1; only = o .2 }
 
     pub replies-sealed : RepliesSealed v m frame b
     replies-sealed =
@@ -264,7 +314,7 @@ module _ (v : View) (good : T (passes v)) where
 
   -- a frame keeps a record within limits
   pub frame-within : (m : Meter) (frame b : List ℕ) → meterOk m ≡ true → meterOk (boardIn v m frame b .handled .meter) ≡ true
-  frame-within m frame b h = kept-within m frame b _ h (untouched m frame b .altered)
+  frame-within m frame b h = kept-within m frame b _ h (kept m frame b)
 
   -- ---- the buffer is not seen
 

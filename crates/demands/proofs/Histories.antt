@@ -19,10 +19,9 @@ use Rattle.meter.specs.Carried.{carriesFor}
 use Rattle.meter.proofs.Cases.{chosen}
 use Rattle.meter.proofs.Sums.{after-adds}
 use Rattle.meter.proofs.Accepts.{sample-within}
-use Rattle.store.specs.Writes.{replacedIn, storedOf}
+use Rattle.store.specs.Writes.{replacedIn}
 use Rattle.board.specs.Board.{boardIn}
-use Rattle.demands.specs.Frames.{Heeds, Stores}
-use Rattle.demands.proofs.Frames.{untouched, frame-within}
+use Rattle.demands.proofs.Frames.{Kept, kept, frame-within}
 use Rattle.demands.specs.Histories.{Event, afterEvent, eventAdds, isTaken, afterAll, exactOf, anyTaken, AfterEvents}
 
 -- ---- a sample
@@ -48,12 +47,12 @@ module _ (v : View) (good : T (passes v)) where
 
   -- what sees neither setup words nor the open window sees nothing of a frame
   module _ {A : Type 0} (see : Meter → A) (blind : (m : Meter) (setup : Setup) → see (setUpOf m setup) ≡ see m) where
-    altered-unseen : (m : Meter) (frame b : List ℕ) (n : Meter) → (n ≡ m) ⊎ (Heeds m frame b × Stores m frame × (n ≡ storedOf m frame)) → see n ≡ see m
+    altered-unseen : (m : Meter) (frame b : List ℕ) (n : Meter) → Kept m frame b n → see n ≡ see m
     altered-unseen m frame b n (inl e) = ap see e
     altered-unseen m frame b n (inr s) = ap see (s .2) ∙ blind m (replacedIn (m .setup) frame)
 
     frame-unseen : (m : Meter) (frame b : List ℕ) → see (boardIn v m frame b .handled .meter) ≡ see m
-    frame-unseen m frame b = altered-unseen m frame b _ (untouched v good m frame b .altered)
+    frame-unseen m frame b = altered-unseen m frame b _ (kept v good m frame b)
 
   event-within : (m : Meter) (x : Event) → meterOk m ≡ true → meterOk (afterEvent v m x) ≡ true
   event-within m (Event.sample s) h = sample-within m s h

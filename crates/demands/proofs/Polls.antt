@@ -31,7 +31,8 @@ use Rattle.modbus.proofs.Frames.{shaped-length}
 use Rattle.modbus.proofs.Stores.{sets-taken}
 use Rattle.modbus.proofs.Judged.{legal-read}
 use Rattle.meter.specs.declared.Meter.{Meter}
-use Rattle.meter.specs.Meters.{meterT}
+use Rattle.meter.specs.declared.given.Given.{Given}
+use Rattle.meter.specs.Meters.{givenOf, meterT, meterOk}
 use Rattle.meter.proofs.Parts.{own-ratios}
 use Rattle.store.proofs.Verdicts.{write-when}
 use Rattle.registers.specs.Shown.{shownOf}
@@ -56,6 +57,7 @@ use Rattle.collector.proofs.When.{replies-when}
 use Rattle.demands.specs.Meaning.{meaningOf}
 use Rattle.demands.proofs.Shown.{item-read}
 use Rattle.demands.specs.RoundTrip.{replyIn, replyTo, Meets, WithData, RoundTrip}
+use Rattle.demands.specs.Demand3.{Poll, collected}
 
 -- ---- the words of an item, among those of a run
 
@@ -260,3 +262,12 @@ module _ (v : View) (good : T (passes v)) where
       error = error-given request;
       other = λ reply r index ok h. replies-when v good request reply r index .row-7 .1 (ok, λ a. false≢true (sym h ∙ with-data .same .0 a));
     }
+
+  -- ---- a poll, told the ratios that the meter was given
+
+  pub poll-reads : (m : Meter) {address : ℕ} {r : Ratios} → meterOk m ≡ true → m .given ≡ givenOf address r → {q : ℕ} (p : Poll v address q) → Shows m q → collected v r m p ≡ Reading (meaningOf m q)
+  poll-reads m within given p fit =
+      let meets : Meets m (p .request) (p .buffer) = record { within = within; room = p .room; own = ap (λ (g : Given). g .address) given ∙ sym (p .own) } in
+      ap (λ (g : Given). collectorIn v (p .request) (replyTo v m (p .request) (p .buffer)) (g .ratios) (p .index)) (sym given)
+      ∙ collects m (p .request) (p .buffer) meets (p .asks) (p .index) (p .below) (rw (p .shows) fit)
+      ∙ ap (λ (x : ℕ). Reading (meaningOf m x)) (p .shows)

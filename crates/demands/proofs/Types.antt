@@ -23,8 +23,8 @@ use Rattle.meter.proofs.Accepts.{new-blank}
 use Rattle.store.specs.Writes.{toStandard, groupWords, replacedIn, storedOf}
 use Rattle.store.proofs.Verdicts.{write-when}
 use Rattle.registers.specs.Typed.{SampleTyped, WordsTyped, SetupTyped, Typed}
-use Rattle.demands.specs.Frames.{Heeds, Stores}
-use Rattle.demands.proofs.Frames.{untouched}
+use Rattle.demands.specs.Frames.{Stores}
+use Rattle.demands.proofs.Frames.{Kept, kept}
 use Rattle.demands.specs.Histories.{Event, afterEvent, afterAll, EventTyped, AllTyped, TypesKept}
 use Rattle.demands.specs.Histories.AllTyped.{more}
 
@@ -87,7 +87,7 @@ module _ (frame : List ℕ) (bytes : (i : ℕ) → getD frame i 0 < 256) where
       by true e = rw e (record { standard = values-typed 16 (number ∙ ap (λ (t : Bool). cond t 16 24) e); output = typed .setup .output })
       by false e = rw e (record { standard = typed .setup .standard; output = values-typed 24 (number ∙ ap (λ (t : Bool). cond t 16 24) e) })
 
-  kept-typed : (m : Meter) (b : List ℕ) (n : Meter) → Typed m → (n ≡ m) ⊎ (Heeds m frame b × Stores m frame × (n ≡ storedOf m frame)) → Typed n
+  kept-typed : (m : Meter) (b : List ℕ) (n : Meter) → Typed m → Kept m frame b n → Typed n
   kept-typed m b n typed (inl e) = subst (λ (x : Meter). Typed x) (sym e) typed
   kept-typed m b n typed (inr s) = subst (λ (x : Meter). Typed x) (sym (s .2)) (stored-typed m typed (s .1))
 
@@ -96,7 +96,7 @@ module _ (v : View) (good : T (passes v)) where
 
   event : (m : Meter) (x : Event) → Typed m → EventTyped x → Typed (afterEvent v m x)
   event m (Event.sample s) typed fits = after-typed m s typed fits
-  event m (Event.frame bytes b) typed fits = kept-typed bytes fits m b _ typed (untouched v good m bytes b .altered)
+  event m (Event.frame bytes b) typed fits = kept-typed bytes fits m b _ typed (kept v good m bytes b)
 
   events : (m : Meter) (xs : List Event) → Typed m → AllTyped xs → Typed (afterAll v m xs)
   unfolding afterAll

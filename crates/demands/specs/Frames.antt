@@ -16,13 +16,15 @@ use Rattle.directory.specs.Views.{View}
 use Rattle.modbus.specs.Frame.{addressOf, silence, isRead, isWrite}
 use Rattle.modbus.specs.Read.{readIn}
 use Rattle.modbus.specs.Replies.{errorBytes, echoReply}
+use Rattle.average.specs.Windows.{openedOf, recodedBy}
 use Rattle.meter.specs.declared.Meter.{Meter}
+use Rattle.meter.specs.Groups.{codeOf}
 use Rattle.meter.specs.Meters.{meterOk}
 use Rattle.board.specs.declared.Reply.the-variants.{Silent, Sent, Refused}
 use Rattle.board.specs.Reads.{itemsSent, dataReply}
 use Rattle.registers.specs.Shown.{shownOf}
 use Rattle.store.specs.declared.Verdict.the-variants.{Good, Wrong}
-use Rattle.store.specs.Writes.{storedOf, writtenOf}
+use Rattle.store.specs.Writes.{toStandard, replacedIn, storedOf, writtenOf}
 use Rattle.board.specs.Board.{Outcome, replyTold, silentOf, sentOf, boardIn}
 
 -- the meter heeds a frame: steps 1 and 2 are passed
@@ -51,6 +53,16 @@ Stores m frame = (isWrite frame ≡ true) × (writtenOf m frame .verdict ≡ Goo
 -- a read that an error code is due to
 abbrev pub ReadErrs : View → ErrorCode → List ℕ → Type 0
 ReadErrs v code frame = (isRead frame ≡ true) × (readIn v frame ≡ Error code)
+
+-- all that a legal write alters: its group is stored and, where this changes the code at 0x200a, a new window is opened (request 1)
+pub record Altered (m : Meter) (frame b : List ℕ) (n : Meter) : Type 0 where
+  pub heeds : Heeds m frame b
+  pub stores : Stores m frame
+  pub group : n .setup ≡ replacedIn (m .setup) frame
+  pub window : n .average ≡ recodedBy (codeOf (m .setup)) (codeOf (n .setup)) (m .average)
+  pub given : n .given ≡ m .given
+  pub counters : n .counters ≡ m .counters
+  pub latest : n .latest ≡ m .latest
 
 -- ---- a frame and a reply buffer, handed to a meter; reads go by a view, the directory and the most words
 
@@ -91,15 +103,25 @@ module _ (v : View) (m : Meter) (frame b : List ℕ) where
   Same = (done .handled .meter ≡ m) × (done .buffer ≡ b)
 
   -- STATEMENT: a refusal changes nothing, nor does a frame that is damaged or foreign; silence leaves the buffer; bytes beyond a
-  -- reply stay; only a legal write that the meter heeds alters the record, and stores its group alone; address 0 never has a reply
+  -- reply stay; only a legal write that the meter heeds alters the record, and just so; address 0 never has a reply
   pub record Untouched : Type 0 where
     pub refused : (reason : Refusal) → done .handled .reply ≡ Refused reason → Same
     pub unheard : silence (m .given .address) frame ≡ true → Same
     pub silent : done .handled .reply ≡ Silent → done .buffer ≡ b
     pub beyond : (n : ℕ) → done .handled .reply ≡ Sent n → drop n (done .buffer) ≡ drop n b
-    pub altered :
-        (done .handled .meter ≡ m) ⊎ (Heeds m frame b × Stores m frame × (done .handled .meter ≡ storedOf m frame))
+    pub altered : (done .handled .meter ≡ m) ⊎ Altered m frame b (done .handled .meter)
     pub for-all : (n : ℕ) → addressOf frame ≡ 0 → done .handled .reply ≡ Sent n → ⊥
+
+  -- the code of the window is another after the frame
+  abbrev Recoded : Type 0
+  Recoded = codeOf (done .handled .meter .setup) ≡ codeOf (m .setup) → ⊥
+
+  -- STATEMENT: whatever the frame, a new window is opened exactly when the code at 0x200a is another after it, average and peak being
+  -- kept, and else no figure is altered; that is done by a legal write to 0x2000 alone
+  pub record WindowOpened : Type 0 where
+    pub opened : Recoded → done .handled .meter .average ≡ openedOf (m .average)
+    pub kept : codeOf (done .handled .meter .setup) ≡ codeOf (m .setup) → done .handled .meter .average ≡ m .average
+    pub only : Recoded → Heeds m frame b × Stores m frame × (toStandard frame ≡ true)
 
   -- STATEMENT: every reply's CRC is right, and its length at most 256
   pub record RepliesSealed : Type 0 where
