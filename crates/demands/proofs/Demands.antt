@@ -23,10 +23,11 @@ use Rattle.demands.specs.Demands.{Demand1, Ground, Replies, Readings, De
 use Rattle.demands.proofs.Frames as board
 use Rattle.demands.proofs.Polls.{with-data, round-trip}
 use Rattle.demands.proofs.Polled.{every-item-polled}
-use Rattle.demands.proofs.Histories.{after-events}
+use Rattle.demands.proofs.Histories.{after-events, setup-idle-always}
 use Rattle.demands.proofs.Types.{types-kept}
 use Rattle.demands.proofs.NotEmpty.{not-empty, reads-always}
 use Rattle.demands.proofs.Demand3.{demand-3}
+use Rattle.demands.proofs.Fills.{averages-always}
 use Rattle.demands.proofs.Determined.{determined, numbered}
 use Rattle.demands.proofs.Starred.{examples-hold}
 use Rattle.demands.proofs.ShutOut.{shut-out}
@@ -73,7 +74,9 @@ replies = record {
   zero = zero-to-neither;
   averages = average-limits;
   setup-idle = setup-idle;
+  setup-always = setup-idle-always;
   code-counts = code-counts;
+  windows = board.window-opened;
   setup-unseen = setup-unseen;
 }
 
@@ -86,6 +89,7 @@ readings = record {
   readings = round-trip;
   typed = types-kept;
   always = reads-always;
+  averages = averages-always;
 }
 
 pub demand-2 : Demand2

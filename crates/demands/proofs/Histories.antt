@@ -1,5 +1,5 @@
 -- A frame alters setup words and the open window alone, and a sample adds what it carries, so an energy is what it was plus the sum: event by event.
-use mathlib.Core.Path.{_≡_, refl, ap, _∙_}
+use mathlib.Core.Path.{_≡_, refl, sym, ap, _∙_}
 use mathlib.Core.Logic.{_⊎_, inl, inr}
 use mathlib.Core.Bool.{Bool, true, false, cond}
 use mathlib.Core.List.{List, [], _∷_}
@@ -8,21 +8,24 @@ use native.Mathlib.Omega.{arith}
 use lib.Dec.{T}
 use Rattle.directory.specs.Views.{View, passes}
 use Rattle.modbus.proofs.Frames.{neither}
+use Rattle.average.specs.declared.Average.{Average}
 use Rattle.meter.specs.declared.samples.Sample.{Sample}
 use Rattle.meter.specs.declared.groups.Setup.{Setup}
+use Rattle.meter.specs.declared.Answered.{Answered}
 use Rattle.meter.specs.declared.Meter.{Meter}
 use Rattle.meter.specs.Samples.{sampleOk}
 use Rattle.meter.specs.Energies.{valueOf}
 use Rattle.meter.specs.Meters.{meterT, meterOk, setUpOf, energyAt}
 use Rattle.meter.specs.After.{nextOf, meterWithinTop, afterOf}
 use Rattle.meter.specs.Carried.{carriesFor}
+use Rattle.meter.specs.Accepts.{other}
 use Rattle.meter.proofs.Cases.{chosen}
 use Rattle.meter.proofs.Sums.{after-adds}
-use Rattle.meter.proofs.Accepts.{sample-within}
+use Rattle.meter.proofs.Accepts.{sample-within, setup-idle}
 use Rattle.store.specs.Writes.{replacedIn}
 use Rattle.board.specs.Board.{boardIn}
 use Rattle.demands.proofs.Frames.{Kept, kept, frame-within}
-use Rattle.demands.specs.Histories.{Event, afterEvent, eventAdds, isTaken, afterAll, exactOf, anyTaken, AfterEvents}
+use Rattle.demands.specs.Histories.{Event, afterEvent, eventAdds, isTaken, afterAll, exactOf, anyTaken, AfterEvents, afterSamples, SetupIdleAlways}
 
 -- ---- a sample
 
@@ -34,7 +37,7 @@ module _ {A : Type 0} (see : Meter → A) (blind : (m : Meter) (s : Sample) → 
   chosen-unseen true false c m n e = refl
   chosen-unseen false b c m n e = refl
 
-  sample-unseen : (m : Meter) (s : Sample) → see (afterOf m s .meter) ≡ see m
+  pub sample-unseen : (m : Meter) (s : Sample) → see (afterOf m s .meter) ≡ see m
   unfolding afterOf
   sample-unseen m s = chosen-unseen (meterOk m) (sampleOk (meterT m) s) (meterWithinTop (nextOf m s)) m (nextOf m s) (blind m s)
 
@@ -100,3 +103,20 @@ module _ (v : View) (good : T (passes v)) where
   idle-adds e m (x ∷ xs) h =
       let t = neither (isTaken m x) (anyTaken v (afterEvent v m x) xs) h in
       omega (arith, untaken-adds e m x (t .0), idle-adds e (afterEvent v m x) xs (t .1))
+
+  -- ---- setup words, and samples
+
+  apart : (m : Meter) (setup : Setup) (a : Average) (ss : List Sample) → meterOk m ≡ true → meterOk (other m setup a) ≡ true → afterSamples v (other m setup a) ss ≡ other (afterSamples v m ss) setup (afterSamples v (other m setup a) ss .average)
+  unfolding afterAll
+  apart m setup a [] hm ho = refl
+  apart m setup a (s ∷ ss) hm ho =
+      let n = afterOf m s .meter in
+      let x = afterOf (other m setup a) s .meter in
+      let next : x ≡ other n setup (x .average) = ap (λ (r : Answered). r .meter) (setup-idle m s setup a .code hm ho) in
+      let within : meterOk (other n setup (x .average)) ≡ true = sym (ap meterOk next) ∙ sample-within (other m setup a) s ho in
+      let rest = apart n setup (x .average) ss (sample-within m s hm) within in
+      let moved = ap (λ (k : Meter). afterSamples v k ss) next in
+      moved ∙ rest ∙ ap (λ (k : Meter). other (afterSamples v n ss) setup (k .average)) (sym moved)
+
+  pub setup-idle-always : SetupIdleAlways v
+  setup-idle-always = record { samples = apart }

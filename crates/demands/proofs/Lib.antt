@@ -9,6 +9,7 @@ pub mod Types
 pub mod NotEmpty
 pub mod Demand3
 pub mod Averages
+pub mod Fills
 pub mod Determined
 pub mod Starred
 pub mod ShutOut

@@ -1,21 +1,24 @@
 -- Paper 02, request 1, over histories: the accepted samples laid out in windows, with no look at the figures that the record keeps, and what
 -- a collector reads of them, through the bytes of the replies.
 use mathlib.Core.Path.{_≡_}
-use Prim.Native.Nat.{ℕ, _+_, _/_, _<_}
+use Prim.Native.Nat.{ℕ, _+_, _/_, _≤_, _<_}
 use mathlib.Core.Bool.{cond}
 use mathlib.Core.List.{List, [], _∷_, map}
 use lib.Dec.{eqb}
+use lib.IntN.{pos}
 use lib.ListN.{length, getD, replicate}
 use Rattle.signed.specs.Signs.{aboveOf}
 use Rattle.ratio.specs.declared.Ratios.{Ratios}
 use Rattle.ratio.specs.Ratios.{tOf}
+use Rattle.ratio.specs.Powers.{powerLimit}
 use Rattle.average.specs.Windows.{windowSeconds, larger}
 use Rattle.directory.specs.Quantity.{quantity, power, plain, average, peak, minutes}
 use Rattle.directory.specs.Views.{View}
 use Rattle.reading.specs.declared.Quantity.the-variants as read
 use Rattle.reading.specs.declared.Answer.the-variants.{Reading}
+use Rattle.meter.specs.declared.Answer.the-variants.{Accepted}
 use Rattle.meter.specs.declared.Meter.{Meter}
-use Rattle.meter.specs.Samples.{inForce}
+use Rattle.meter.specs.Samples.{inForce, sampleOf}
 use Rattle.meter.specs.Groups.{codeOf}
 use Rattle.meter.specs.Meters.{newOf}
 use Rattle.demands.specs.Meaning.{roundedPower}
@@ -68,6 +71,10 @@ peakIn l = largest (map averageOf (l .full))
 abbrev pub minutesIn : Layout → ℕ
 minutesIn l = length (l .begun) / 60
 
+-- a steady load: so many seconds of a positive P, in hundredths of W, on one phase
+abbrev pub steady : ℕ → ℕ → List Event
+steady seconds p = replicate seconds (Event.sample (sampleOf (record { l1 = pos p; l2 = pos 0; l3 = pos 0 })))
+
 -- ---- over a view: the directory and the most words that reads go by
 
 module _ (v : View) where
@@ -88,7 +95,7 @@ module _ (v : View) where
 
   module _ (address : ℕ) (r : Ratios) (xs : List Event) where
     -- the meter now
-    abbrev current : Meter
+    abbrev pub current : Meter
     current = afterAll v (newOf address r .meter) xs
 
     -- all events since new, laid out
@@ -108,3 +115,19 @@ module _ (v : View) where
       pub minutes-read :
           (p : Poll v address (quantity plain minutes)) → collected v r current p ≡ Reading (read.Plain (minutesIn layoutOf))
       pub begun-fewer : length (layoutOf .begun) < windowSeconds (codeOf (current .setup))
+
+  -- STATEMENT: windows do fill. On a new meter a steady load is nothing to average and peak for 299 seconds, and with the 300th it is both
+  pub record WindowFills (address : ℕ) (r : Ratios) (load : ℕ) : Type 0 where
+    pub before : layoutOf address r (steady 299 load) ≡ record { full = []; begun = replicate 299 load }
+    pub filled : layoutOf address r (steady 300 load) ≡ record { full = replicate 300 load ∷ []; begun = [] }
+    pub average-read :
+        (p : Poll v address (quantity power average)) →
+        collected v r (current address r (steady 300 load)) p ≡ Reading (read.Power (roundedPower (tOf r) load))
+    pub peak-read :
+        (p : Poll v address (quantity power peak)) →
+        collected v r (current address r (steady 300 load)) p ≡ Reading (read.Power (roundedPower (tOf r) load))
+
+  -- STATEMENT: so it is of every accepted new meter, whatever came to it, and of every load within the power limit
+  pub record AveragesAlways : Type 0 where
+    pub reads : (address : ℕ) (r : Ratios) (xs : List Event) → newOf address r .answer ≡ Accepted → AveragesRead address r xs
+    pub fills : (address : ℕ) (r : Ratios) (load : ℕ) → newOf address r .answer ≡ Accepted → load ≤ powerLimit (tOf r) → WindowFills address r load

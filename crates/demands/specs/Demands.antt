@@ -35,11 +35,12 @@ use Rattle.meter.specs.Accepts.{NewAnswers, SampleAnswers, SetupIdle, CodeCount
 use Rattle.store.specs.Writes.{WriteWhen}
 use Rattle.transcript.specs.Transcript.{TextWritten}
 use Rattle.registers.specs.Typed.{Typed, EveryCase, SetupUnseen}
-use Rattle.demands.specs.Frames.{FramesWhen, Obeys, Untouched, RepliesSealed, BufferUnseen}
+use Rattle.demands.specs.Frames.{FramesWhen, Obeys, Untouched, WindowOpened, RepliesSealed, BufferUnseen}
 use Rattle.demands.specs.RoundTrip.{Meets, WithData, RoundTrip}
-use Rattle.demands.specs.Histories.{TypesKept, AfterEvents}
+use Rattle.demands.specs.Histories.{TypesKept, AfterEvents, SetupIdleAlways}
 use Rattle.demands.specs.Polled.{EveryItemPolled}
 use Rattle.demands.specs.Demand3.{Demand3}
+use Rattle.demands.specs.Averages.{AveragesAlways}
 use Rattle.demands.specs.NotEmpty.{NotEmpty, ReadsAlways}
 use Rattle.demands.specs.Determined.{Determined, Numbered}
 use Rattle.demands.specs.ShutOut.{ShutOut}
@@ -105,7 +106,9 @@ pub record Replies : Type 0 where
   pub zero : ZeroToNeither
   pub averages : (t code : ℕ) (a : Average) → AverageLimits t code a
   pub setup-idle : (m : Meter) (s : Sample) (setup : Setup) (a : Average) → SetupIdle m s setup a
+  pub setup-always : EveryView SetupIdleAlways
   pub code-counts : CodeCounts
+  pub windows : EveryFrame WindowOpened
   pub setup-unseen : (m : Meter) (setup : Setup) → SetupUnseen m setup
 
 -- STATEMENT: demand 2, its second half: the collector turns each reply into the one reading assigned, or the one refusal
@@ -117,6 +120,7 @@ pub record Readings : Type 0 where
   pub readings : EveryMeeting RoundTrip
   pub typed : EveryView TypesKept
   pub always : EveryView ReadsAlways
+  pub averages : EveryView AveragesAlways
 
 -- STATEMENT: demand 2, with what both halves rest on; each call's outcome is determined, the paper's examples come out, and `bench`
 -- writes the text that the paper asks for

@@ -2,16 +2,19 @@
 use mathlib.Core.Path.{_≡_}
 use Prim.Native.Nat.{ℕ, _+_, _<_}
 use mathlib.Core.Bool.{Bool, true, false, _||_}
-use mathlib.Core.List.{List, [], _∷_}
+use mathlib.Core.List.{List, [], _∷_, map}
 use lib.ListN.{getD}
 use Rattle.ratio.specs.declared.Ratios.{Ratios}
 use Rattle.directory.specs.Views.{View}
+use Rattle.average.specs.declared.Average.{Average}
 use Rattle.meter.specs.declared.samples.Sample.{Sample}
+use Rattle.meter.specs.declared.groups.Setup.{Setup}
 use Rattle.meter.specs.declared.Meter.{Meter}
 use Rattle.meter.specs.Energies.{valueOf}
 use Rattle.meter.specs.Meters.{meterOk, newOf, energyAt}
 use Rattle.meter.specs.After.{afterOf}
 use Rattle.meter.specs.Carried.{isAccepted, addedBy}
+use Rattle.meter.specs.Accepts.{other}
 use Rattle.registers.specs.Typed.{SampleTyped, Typed}
 use Rattle.board.specs.Board.{boardIn}
 
@@ -75,3 +78,14 @@ module _ (v : View) where
     pub within : (m : Meter) (xs : List Event) → meterOk m ≡ true → meterOk (afterAll m xs) ≡ true
     pub given : (m : Meter) (xs : List Event) → afterAll m xs .given ≡ m .given
     pub grows : (e : ℕ) (m : Meter) (xs : List Event) → valueOf (energyAt e (afterAll m xs)) ≡ valueOf (energyAt e m) + exactOf e m xs
+
+  -- the meter after some samples
+  abbrev pub afterSamples : Meter → List Sample → Meter
+  afterSamples m ss = afterAll m (map (λ (s : Sample). Event.sample s) ss)
+
+  -- STATEMENT: `SetupIdle` of any number of samples: of two records within limits that are alike but for setup words and request 1's
+  -- figures, all that later samples make is alike but for these
+  pub record SetupIdleAlways : Type 0 where
+    pub samples :
+        (m : Meter) (setup : Setup) (a : Average) (ss : List Sample) → meterOk m ≡ true → meterOk (other m setup a) ≡ true →
+        afterSamples (other m setup a) ss ≡ other (afterSamples m ss) setup (afterSamples (other m setup a) ss .average)
