@@ -1,13 +1,12 @@
 -- A window has 300 to 3,600 seconds; the limits one by one; what is within limits stays so.
-use mathlib.Core.Path.{_≡_, refl, sym, _∙_}
-use mathlib.Core.Logic.{_↔_}
+use mathlib.Core.Path.{_≡_, refl}
 use mathlib.Core.Bool.{Bool, true, false, _&&_, cond, and-eq-true-iff}
 use Prim.Native.Nat.{ℕ, zero, suc, _+_, _*_, _/_, _≤_, _<_, zero-le}
 use native.Mathlib.Nat.{div-lt-iff-lt-mul, mul-le-mul-left, mul-comm, add-mul, le-trans}
 use native.Mathlib.Omega.{arith}
 use lib.Dec.{leb, ltb, eqb}
 use borrow.Author.Tests.{le-leb, lt-ltb, leb-true, ltb-true, ltb-false, eqb-true}
-use Rattle.ratio.specs.Powers.{topPower, powerLimit}
+use Rattle.ratio.specs.Powers.{powerLimit}
 use Rattle.ratio.proofs.Powers.{power-laws}
 use Rattle.average.specs.declared.Window.{Window}
 use Rattle.average.specs.declared.Average.{Average}

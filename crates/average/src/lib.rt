@@ -101,10 +101,7 @@ impl Average {
 fn opened() -> Window
     ensures { λ r. ⌜ r ≡ noWindow ⌝ }
 {
-    Window {
-        seconds: 0,
-        sum: 0,
-    }
+    Window { seconds: 0, sum: 0 }
 }
 
 fn larger_of(a: u64, b: u64) -> u64

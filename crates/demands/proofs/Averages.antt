@@ -4,7 +4,7 @@ use mathlib.Core.Path.{_≡_, refl, sym, ap, subst, _∙_}
 use mathlib.Core.Logic.{inl, inr}
 use mathlib.Core.Bool.{Bool, true, false, cond}
 use mathlib.Core.List.{List, [], _∷_}
-use Prim.Native.Nat.{ℕ, suc, _+_, _/_, _<_}
+use Prim.Native.Nat.{ℕ, _+_, _/_, _<_}
 use native.Mathlib.Omega.{arith}
 use lib.Dec.{T, eqb, ltb}
 use lib.ListN.{length}
@@ -35,7 +35,7 @@ use Rattle.registers.proofs.Widths.{average-shows, peak-shows, minutes-shows}
 use Rattle.board.specs.Board.{boardIn}
 use Rattle.demands.specs.Meaning.{roundedPower, powerMeanings, meaningOf}
 use Rattle.demands.specs.Histories.{Event, afterEvent, afterAll}
-use Rattle.demands.specs.Averages.{Layout, noLayout, laidIn, droppedOf, total, largest, lastIn, peakIn, minutesIn, laidBy, laidAll, layoutOf, AveragesRead}
+use Rattle.demands.specs.Averages.{Layout, noLayout, laidIn, droppedOf, total, largest, lastIn, peakIn, laidBy, laidAll, layoutOf, AveragesRead}
 use Rattle.demands.proofs.Frames.{Kept, kept}
 use Rattle.demands.proofs.Polls.{poll-reads}
 use Rattle.demands.proofs.Histories.{after-events}

@@ -1,8 +1,8 @@
 -- A new meter's energies are far below their tops for 300 seconds, so that every one is accepted; each joins the window, and the last fills it.
-use mathlib.Core.Path.{_≡_, refl, sym, ap, _∙_}
+use mathlib.Core.Path.{_≡_, refl, ap, _∙_}
 use mathlib.Core.Bool.{Bool, true, false, _&&_, cond}
 use mathlib.Core.List.{[], _∷_}
-use Prim.Native.Nat.{ℕ, zero, suc, _+_, _*_, _/_, _≤_, _<_, zero-le}
+use Prim.Native.Nat.{ℕ, zero, suc, _+_, _*_, _≤_, _<_, zero-le}
 use native.Mathlib.Nat.{le-trans, suc-mul}
 use native.Mathlib.Omega.{arith}
 use lib.Dec.{T, leb}
@@ -16,13 +16,12 @@ use Rattle.ratio.specs.Ratios.{tOf}
 use Rattle.ratio.specs.Powers.{topPower, powerLimit}
 use Rattle.ratio.proofs.Powers.{power-laws}
 use Rattle.counts.specs.Counting.{topWh}
-use Rattle.average.specs.Windows.{codedMinutes, windowSeconds}
+use Rattle.average.specs.Windows.{codedMinutes}
 use Rattle.directory.specs.Views.{View, passes}
 use Rattle.reading.specs.declared.Quantity.the-variants as read
 use Rattle.reading.specs.declared.Answer.the-variants.{Reading}
 use Rattle.meter.specs.declared.samples.Sample.{Sample}
 use Rattle.meter.specs.declared.energies.Energy.{Energy}
-use Rattle.meter.specs.declared.given.Given.{Given}
 use Rattle.meter.specs.declared.Answer.the-variants.{Accepted}
 use Rattle.meter.specs.declared.Meter.{Meter}
 use Rattle.meter.specs.Samples.{inForce, sampleOk, sampleOf}

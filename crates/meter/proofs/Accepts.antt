@@ -17,7 +17,7 @@ use Rattle.ratio.specs.Powers.{powerLimit}
 use Rattle.counts.specs.Counting.{topWh}
 use Rattle.setup.specs.Ranges.{groupOk, wordOk}
 use Rattle.average.specs.declared.Average.{Average}
-use Rattle.average.specs.Windows.{codedMinutes, noAverage, afterSecond, recodedBy, averageOk}
+use Rattle.average.specs.Windows.{codedMinutes, afterSecond, averageOk}
 use Rattle.average.proofs.Limits.{blank-average, recoded-within, second-within}
 use Rattle.meter.specs.declared.samples.Sample.{Sample}
 use Rattle.meter.specs.declared.energies.Energy.{Energy}
@@ -31,8 +31,8 @@ use Rattle.meter.specs.Samples.{inForce, sampleOk, noSample}
 use Rattle.meter.specs.Energies.{energyOk, energiesOk, countersOk, plusOf, withPower, withPowers, withinTop, countersWithinTop}
 use Rattle.meter.specs.Groups.{setupOk, codeOf}
 use Rattle.meter.specs.Meters.{meterT, meterOk, blankOf, answerWith, answerTold, newOf, withAverage, withSetup, setUpOf}
-use Rattle.meter.specs.After.{averageAfter, nextOf, meterWithinTop, afterOf}
-use Rattle.meter.specs.Accepts.{NewAnswers, SampleAnswers, other, SetupIdle, at299, CodeCounts}
+use Rattle.meter.specs.After.{nextOf, meterWithinTop, afterOf}
+use Rattle.meter.specs.Accepts.{NewAnswers, SampleAnswers, other, SetupIdle, CodeCounts}
 use Rattle.meter.proofs.Parts.{meter-parts, groups-within, above-most}
 use Rattle.meter.proofs.Cases.{chosen, after-accepted}
 use Rattle.meter.proofs.Outcomes.{by-number, firstOf, first-fails, second-fails, third-fails, none-fails, only-these, not-accepted}

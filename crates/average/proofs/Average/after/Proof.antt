@@ -1,5 +1,5 @@
 -- A window that is not full has room for one second more; the test is the definition's own.
-use mathlib.Core.Path.{refl, _∙_}
+use mathlib.Core.Path.{refl}
 use native.Mathlib.Omega.{arith}
 use borrow.Author.Tests.{lt-ltb, le-ltb}
 use Rattle.average.specs.Windows.{windowSeconds, afterSecond}

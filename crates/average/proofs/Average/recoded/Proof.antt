@@ -1,5 +1,4 @@
 -- The test is the definition's own.
-use mathlib.Core.Path.{refl}
 use borrow.Author.Tests.{eq-eqb, ne-eqb}
 use borrow.Author.Needs.{needs}
 use Rattle.average.proofs.Average.recoded.Statement.{statement}

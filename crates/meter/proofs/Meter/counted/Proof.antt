@@ -1,11 +1,8 @@
 -- The record and the sample are within limits, so every sum has room.
-use mathlib.Core.Path.{_≡_, ap, _∙_}
-use Prim.Native.Nat.{ℕ}
+use mathlib.Core.Path.{ap, _∙_}
 use Rattle.signed.specs.Signs.{aboveOf}
-use Rattle.average.specs.declared.Average.{Average}
 use Rattle.average.specs.Windows.{afterSecond}
 use Rattle.average.proofs.Limits.{joins}
-use Rattle.meter.specs.declared.energies.Counters.{Counters}
 use Rattle.meter.specs.Samples.{inForce}
 use Rattle.meter.specs.Energies.{withPowers}
 use Rattle.meter.specs.Groups.{codeOf}
