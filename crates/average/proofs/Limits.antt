@@ -6,6 +6,8 @@ use native.Mathlib.Nat.{div-lt-iff-lt-mul, mul-le-mul-left, mul-comm, add-mul, l
 use native.Mathlib.Omega.{arith}
 use lib.Dec.{leb, ltb, eqb}
 use borrow.Author.Tests.{le-leb, lt-ltb, leb-true, ltb-true, ltb-false, eqb-true}
+use Rattle.signed.specs.declared.Signed.{Signed}
+use Rattle.signed.proofs.Sums.{above-le}
 use Rattle.ratio.specs.Powers.{powerLimit}
 use Rattle.ratio.proofs.Powers.{power-laws}
 use Rattle.average.specs.declared.Window.{Window}
@@ -99,13 +101,13 @@ larger-least a b = by (ltb a b) refl
     by true e = omega arith
     by false e = omega (arith, ltb-false a b e)
 
-module _ (t code : ℕ) (a : Average) (power : ℕ) (h : averageOk t code a ≡ true) (most : power ≤ powerLimit t) where
+module _ (t code : ℕ) (a : Average) (p : Signed) (h : averageOk t code a ≡ true) (most : p .magnitude ≤ powerLimit t) where
   abbrev next : Window
-  next = joinedBy (a .window) power
+  next = joinedBy (a .window) p
 
   -- one second more of a power within the limit
   next-sum : next .sum ≤ next .seconds * powerLimit t
-  next-sum = rw add-mul (omega (arith, average-parts t code a h .sum, most))
+  next-sum = rw add-mul (omega (arith, average-parts t code a h .sum, above-le p most))
 
   stepped-within : (more : Bool) → ltb (next .seconds) (windowSeconds code) ≡ more → averageOk t code (cond more (record { window = next; last = a .last; peak = a .peak }) (closedBy a next)) ≡ true
   stepped-within true e =
@@ -123,16 +125,16 @@ module _ (t code : ℕ) (a : Average) (power : ℕ) (h : averageOk t code a ≡ 
       })
 
   -- a second of a power within the limit keeps the figures within limits
-  pub second-within : averageOk t code (afterSecond code a power) ≡ true
+  pub second-within : averageOk t code (afterSecond code a p) ≡ true
   unfolding afterSecond
   second-within = stepped-within (ltb (next .seconds) (windowSeconds code)) refl
 
   -- and it has room
-  pub joins : Joins code a power
+  pub joins : Joins (a .window) p
   joins =
       let w = average-parts t code a h in
       record {
-        seconds = w .seconds;
+        seconds = omega (arith, w .seconds, coded-fits code);
         sum = le-trans (w .sum) (mul-le-mul-left (a .window .seconds) (power-laws .limit t));
         most = le-trans most (power-laws .limit t);
       }

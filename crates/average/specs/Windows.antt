@@ -1,4 +1,4 @@
--- Paper 02, request 1: average power and its peak. A power is positive 3-phase P, in hundredths of W.
+-- Paper 02, request 1: average power and its peak. Powers are in hundredths of W.
 use mathlib.Core.Path.{_≡_}
 use mathlib.Core.Logic.{_↔_}
 use Prim.Native.Nat.{ℕ, _+_, _*_, _/_, _≤_, _<_}
@@ -6,6 +6,8 @@ use mathlib.Core.Bool.{Bool, true, _&&_, cond}
 use mathlib.Core.List.{[], _∷_}
 use lib.Dec.{leb, ltb, eqb}
 use lib.ListN.{getD}
+use Rattle.signed.specs.declared.Signed.{Signed}
+use Rattle.signed.specs.Signs.{aboveOf}
 use Rattle.ratio.specs.Powers.{topPower, powerLimit}
 use Rattle.average.specs.declared.Window.{Window}
 use Rattle.average.specs.declared.Average.{Average}
@@ -26,9 +28,9 @@ noWindow = record { seconds = 0; sum = 0 }
 abbrev pub noAverage : Average
 noAverage = record { window = noWindow; last = 0; peak = 0 }
 
--- the window with one second more
-abbrev pub joinedBy : Window → ℕ → Window
-joinedBy w power = record { seconds = w .seconds + 1; sum = w .sum + power }
+-- one second more, of a 3-phase P: positive it joins the sum, negative it adds 0; the second is counted
+abbrev pub joinedBy : Window → Signed → Window
+joinedBy w p = record { seconds = w .seconds + 1; sum = w .sum + aboveOf p }
 
 -- the average: the sum over its seconds, rounded down
 abbrev pub meanOf : Window → ℕ
@@ -43,11 +45,11 @@ abbrev pub closedBy : Average → Window → Average
 closedBy a full = record { window = noWindow; last = meanOf full; peak = larger (a .peak) (meanOf full) }
 
 -- the figures after a second: it joins the open window, and closes it where it fills it
-unfoldable pub afterSecond : ℕ → Average → ℕ → Average
-afterSecond code a power =
-    cond (ltb (a .window .seconds + 1) (windowSeconds code))
-    (record { window = joinedBy (a .window) power; last = a .last; peak = a .peak })
-    (closedBy a (joinedBy (a .window) power))
+unfoldable pub afterSecond : ℕ → Average → Signed → Average
+afterSecond code a p =
+    cond (ltb (joinedBy (a .window) p .seconds) (windowSeconds code))
+    (record { window = joinedBy (a .window) p; last = a .last; peak = a .peak })
+    (closedBy a (joinedBy (a .window) p))
 
 -- a new window is opened, keeping average and peak
 abbrev pub openedOf : Average → Average
@@ -81,8 +83,8 @@ pub record AverageWithin (t code : ℕ) (a : Average) : Type 0 where
 pub record AverageLimits (t code : ℕ) (a : Average) : Type 0 where
   pub when : (averageOk t code a ≡ true) ↔ AverageWithin t code a
 
--- a second of a power has room in the figures: asked by the leaf that counts it, so that its sums fit
-pub record Joins (code : ℕ) (a : Average) (power : ℕ) : Type 0 where
-  pub seconds : a .window .seconds < windowSeconds code
-  pub sum : a .window .sum ≤ a .window .seconds * topPower
-  pub most : power ≤ topPower
+-- a window and a power that the leaf which counts a second asks for, so that its sums fit
+pub record Joins (w : Window) (p : Signed) : Type 0 where
+  pub seconds : w .seconds ≤ 3600
+  pub sum : w .sum ≤ w .seconds * topPower
+  pub most : p .magnitude ≤ topPower

@@ -1,15 +1,48 @@
 // Average power and its peak (paper 02, request 1): the average of the last full window, the largest since new, and the window
-// that is open. Powers are positive 3-phase P, in hundredths of W.
+// that is open. Powers are in hundredths of W.
 ghost use mathlib.Core.Path.{_≡_};
 ghost use Prim.Native.Nat.{_<_};
-ghost use Rattle.average.specs.Windows.{codedMinutes, windowSeconds, noWindow, noAverage, larger, closedBy, afterSecond, recodedBy, minutesOf, averageOk, Joins};
+ghost use Rattle.average.specs.Windows.{codedMinutes, windowSeconds, noWindow, noAverage, joinedBy, meanOf, larger, closedBy, afterSecond, recodedBy, minutesOf, averageOk, Joins};
+use signed::Signed;
 
 // The open window.
 pub struct Window {
     // How many seconds have joined it.
     pub seconds: u16,
-    // The sum of their powers.
+    // The sum of positive 3-phase P over them, in hundredths of a watt-second.
     pub sum: u64,
+}
+
+impl Window {
+    // A window that no second has joined.
+    fn blank() -> Window
+        ensures { λ r. ⌜ r ≡ noWindow ⌝ }
+    {
+        Window {
+            seconds: 0,
+            sum: 0,
+        }
+    }
+
+    // The window with one second more. A negative P adds 0 to its sum.
+    fn joined(self, p: Signed) -> Window
+        requires { ⌜ Joins self p ⌝ }
+        ensures { λ r. ⌜ r ≡ joinedBy self p ⌝ }
+    {
+        Window {
+            seconds: self.seconds + 1,
+            sum: self.sum + p.above(),
+        }
+    }
+
+    // The sum over the seconds, rounded down.
+    fn mean(self) -> u64
+        requires { ⌜ 0 < self .seconds ⌝ }
+        ensures { λ r. ⌜ r ≡ meanOf self ⌝ }
+    {
+        let seconds = self.seconds as u64;
+        self.sum / seconds
+    }
 }
 
 pub struct Average {
@@ -26,7 +59,7 @@ impl Average {
         ensures { λ r. ⌜ r ≡ noAverage ⌝ }
     {
         Average {
-            window: opened(),
+            window: Window::blank(),
             last: 0,
             peak: 0,
         }
@@ -43,21 +76,16 @@ impl Average {
             & (self.peak <= limit)
     }
 
-    // The figures after one more second of a power. The second that fills the window closes it and opens the next.
-    pub fn after(self, code: u16, power: u64) -> Average
-        requires { ⌜ Joins code self power ⌝ }
-        ensures { λ r. ⌜ r ≡ afterSecond code self power ⌝ }
+    // The figures after one more second. The second that fills the window closes it and opens the next.
+    pub fn after(self, code: u16, p: Signed) -> Average
+        requires { ⌜ Joins (self .window) p ⌝ }
+        ensures { λ r. ⌜ r ≡ afterSecond code self p ⌝ }
     {
-        let window = Window {
-            seconds: self.window.seconds + 1,
-            sum: self.window.sum + power,
-        };
+        let window = self.window.joined(p);
         if window.seconds < window_seconds(code) {
-            return Average {
-                window,
-                last: self.last,
-                peak: self.peak,
-            };
+            let mut next = self;
+            next.window = window;
+            return next;
         }
         self.closed(window)
     }
@@ -67,9 +95,9 @@ impl Average {
         requires { ⌜ 0 < full .seconds ⌝ }
         ensures { λ r. ⌜ r ≡ closedBy self full ⌝ }
     {
-        let mean = full.sum / full.seconds as u64;
+        let mean = full.mean();
         Average {
-            window: opened(),
+            window: Window::blank(),
             last: mean,
             peak: larger_of(self.peak, mean),
         }
@@ -83,7 +111,7 @@ impl Average {
             return self;
         }
         Average {
-            window: opened(),
+            window: Window::blank(),
             last: self.last,
             peak: self.peak,
         }
@@ -95,13 +123,6 @@ impl Average {
     {
         self.window.seconds / 60
     }
-}
-
-// A window that no second has joined.
-fn opened() -> Window
-    ensures { λ r. ⌜ r ≡ noWindow ⌝ }
-{
-    Window { seconds: 0, sum: 0 }
 }
 
 fn larger_of(a: u64, b: u64) -> u64
@@ -125,7 +146,7 @@ fn coded_minutes(code: u16) -> u16
     }
 }
 
-// The accepted samples of a window, one a second.
+// The accepted samples that fill a window, one a second.
 fn window_seconds(code: u16) -> u16
     ensures { λ r. ⌜ r ≡ windowSeconds code ⌝ }
 {

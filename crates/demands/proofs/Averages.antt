@@ -9,6 +9,7 @@ use native.Mathlib.Omega.{arith}
 use lib.Dec.{T, eqb, ltb}
 use lib.ListN.{length}
 use borrow.Author.Tests.{eq-eqb, ne-eqb, ltb-true, ltb-false}
+use Rattle.signed.specs.declared.Signed.{Signed}
 use Rattle.signed.specs.Signs.{aboveOf}
 use Rattle.ratio.specs.declared.Ratios.{Ratios}
 use Rattle.ratio.specs.Ratios.{tOf}
@@ -53,7 +54,10 @@ none-figured = record { seconds = refl; sum = refl; last = refl; peak = refl }
 
 -- ---- a second
 
-module _ (code p : ℕ) (a : Average) (l : Layout) (fewer : a .window .seconds < windowSeconds code) (f : Figured a l) where
+module _ (code : ℕ) (q : Signed) (a : Average) (l : Layout) (fewer : a .window .seconds < windowSeconds code) (f : Figured a l) where
+  abbrev p : ℕ
+  p = aboveOf q
+
   -- its window's sum and seconds, with it
   joined-sum : a .window .sum + p ≡ total (p ∷ l .begun)
   unfolding total
@@ -65,7 +69,7 @@ module _ (code p : ℕ) (a : Average) (l : Layout) (fewer : a .window .seconds <
   mean : (a .window .sum + p) / (a .window .seconds + 1) ≡ total (p ∷ l .begun) / length (p ∷ l .begun)
   mean = λ i. joined-sum i / joined-seconds i
 
-  picked : (more : Bool) → ltb (a .window .seconds + 1) (windowSeconds code) ≡ more → Figured (cond more (record { window = joinedBy (a .window) p; last = a .last; peak = a .peak }) (closedBy a (joinedBy (a .window) p))) (laidIn (windowSeconds code) p l)
+  picked : (more : Bool) → ltb (a .window .seconds + 1) (windowSeconds code) ≡ more → Figured (cond more (record { window = joinedBy (a .window) q; last = a .last; peak = a .peak }) (closedBy a (joinedBy (a .window) q))) (laidIn (windowSeconds code) p l)
   unfolding total largest
   picked true e =
       let short : eqb (length (p ∷ l .begun)) (windowSeconds code) ≡ false = ne-eqb (length (p ∷ l .begun)) (windowSeconds code) (λ same. omega (arith, joined-seconds, same, ltb-true (a .window .seconds + 1) (windowSeconds code) e)) in
@@ -74,7 +78,7 @@ module _ (code p : ℕ) (a : Average) (l : Layout) (fewer : a .window .seconds <
       let whole : eqb (length (p ∷ l .begun)) (windowSeconds code) ≡ true = eq-eqb (length (p ∷ l .begun)) (windowSeconds code) (omega (arith, joined-seconds, fewer, ltb-false (a .window .seconds + 1) (windowSeconds code) e)) in
       rw whole (record { seconds = refl; sum = refl; last = mean; peak = λ i. larger (f .peak i) (mean i) })
 
-  second-figured : Figured (afterSecond code a p) (laidIn (windowSeconds code) p l)
+  second-figured : Figured (afterSecond code a q) (laidIn (windowSeconds code) p l)
   unfolding afterSecond
   second-figured = picked (ltb (a .window .seconds + 1) (windowSeconds code)) refl
 
@@ -101,7 +105,7 @@ sample-figured : (m : Meter) (s : Sample) (l : Layout) → Figured (m .average) 
 unfolding afterOf
 sample-figured m s l f =
     chosen-figured (meterOk m) (sampleOk (meterT m) s) (meterWithinTop (nextOf m s)) m (nextOf m s) l _ f
-    (λ within. second-figured (codeOf (m .setup)) (aboveOf (inForce (s .p))) (m .average) l (figures m within .seconds) f)
+    (λ within. second-figured (codeOf (m .setup)) (inForce (s .p)) (m .average) l (figures m within .seconds) f)
 
 module _ (v : View) (good : T (passes v)) where
   -- whatever a frame does, the figures are recoded from the code before it to the one after

@@ -33,7 +33,7 @@ use Rattle.meter.specs.Groups.{setupOk, codeOf}
 use Rattle.meter.specs.Meters.{meterT, meterOk, blankOf, answerWith, answerTold, newOf, withAverage, withSetup, setUpOf}
 use Rattle.meter.specs.After.{nextOf, meterWithinTop, afterOf}
 use Rattle.meter.specs.Accepts.{NewAnswers, SampleAnswers, other, SetupIdle, CodeCounts}
-use Rattle.meter.proofs.Parts.{meter-parts, groups-within, above-most}
+use Rattle.meter.proofs.Parts.{meter-parts, groups-within, p-most}
 use Rattle.meter.proofs.Cases.{chosen, after-accepted}
 use Rattle.meter.proofs.Outcomes.{by-number, firstOf, first-fails, second-fails, third-fails, none-fails, only-these, not-accepted}
 
@@ -103,7 +103,7 @@ next-within m s hm hs ht =
       given = k .given;
       counters = counted-within (m .counters) (inForce (s .p)) (inForce (s .q)) ∙ ht;
       latest = hs;
-      average = second-within (meterT m) (codeOf (m .setup)) (m .average) (aboveOf (inForce (s .p))) (k .average) (above-most m s hm hs);
+      average = second-within (meterT m) (codeOf (m .setup)) (m .average) (inForce (s .p)) (k .average) (p-most m s hm hs);
       setup = k .setup;
     })
 
@@ -250,7 +250,7 @@ module _ (m : Meter) (s : Sample) (setup : Setup) where
         groups-within (withSetup m setup) (record { given = k .given; counters = k .counters; latest = k .latest; average = averages; setup = hs })
 
     same-next : nextOf (withSetup m setup) s ≡ withSetup (nextOf m s) setup
-    same-next = ap (λ (code : ℕ). withSetup (withAverage (nextOf m s) (afterSecond code (m .average) (aboveOf (inForce (s .p))))) setup) same
+    same-next = ap (λ (code : ℕ). withSetup (withAverage (nextOf m s) (afterSecond code (m .average) (inForce (s .p)))) setup) same
 
     abbrev changed : Answered → Answered
     changed r = answerWith (r .answer) (withSetup (r .meter) setup)

@@ -7,8 +7,6 @@ use native.Mathlib.Omega.{arith}
 use lib.Dec.{leb, eqb}
 use lib.IntN.{natAbs}
 use borrow.Author.Tests.{leb-true, eqb-true}
-use Rattle.signed.specs.Signs.{aboveOf}
-use Rattle.signed.proofs.Sums.{above-le}
 use Rattle.ratio.specs.Ratios.{ktaOk, ktvOk, ratiosOk}
 use Rattle.ratio.specs.Powers.{powerLimit}
 use Rattle.ratio.proofs.Powers.{power-laws}
@@ -180,9 +178,9 @@ module _ (m : Meter) (s : Sample) (hm : meterOk m ≡ true) (hs : sampleOk (mete
   pub held-q : Held (s .q)
   held-q = phases-held (meterT m) (s .q) (powers-phases (meterT m) (s .q) (sample-parts (meterT m) s hs .q))
 
-  -- what joins the open window is at most the power limit
-  pub above-most : aboveOf (inForce (s .p)) ≤ powerLimit (meterT m)
-  above-most = above-le (inForce (s .p)) (in-force-most (meterT m) (s .p) (sample-parts (meterT m) s hs .p))
+  -- what joins the open window
+  pub p-most : inForce (s .p) .magnitude ≤ powerLimit (meterT m)
+  p-most = in-force-most (meterT m) (s .p) (sample-parts (meterT m) s hs .p)
 
   pub room : Room (m .counters .active) (inForce (s .p)) × Room (m .counters .reactive) (inForce (s .q))
   room =

@@ -1,8 +1,6 @@
 -- Paper 01, "The meter's record": a sample covers one second. Paper 02, request 1: it joins the open window.
 use mathlib.Core.Bool.{Bool, not, cond}
 use Rattle.refusal.specs.declared.Refusal.the-variants.{MeterOutOfLimits, SampleOutOfLimits, EnergyPastTop}
-use Rattle.signed.specs.Signs.{aboveOf}
-use Rattle.average.specs.declared.Average.{Average}
 use Rattle.average.specs.Windows.{afterSecond}
 use Rattle.meter.specs.declared.samples.Sample.{Sample}
 use Rattle.meter.specs.declared.Meter.{Meter}
@@ -13,16 +11,12 @@ use Rattle.meter.specs.Energies.{withPowers, countersWithinTop}
 use Rattle.meter.specs.Groups.{codeOf}
 use Rattle.meter.specs.Meters.{meterT, meterOk, withCounters, withLatest, withAverage, answerWith}
 
--- the figures of request 1 after it: a positive 3-phase P joins the open window, a negative one adds 0, the second is counted
-abbrev pub averageAfter : Meter → Sample → Average
-averageAfter m s = afterSecond (codeOf (m .setup)) (m .average) (aboveOf (inForce (s .p)))
-
 -- when accepted, it becomes the latest; 3-phase P is added to +Ea or -Ea; likewise Q; it joins the open window
 abbrev pub nextOf : Meter → Sample → Meter
 nextOf m s =
     withAverage
     (withLatest (withCounters m (withPowers (m .counters) (inForce (s .p)) (inForce (s .q)))) s)
-    (averageAfter m s)
+    (afterSecond (codeOf (m .setup)) (m .average) (inForce (s .p)))
 
 -- none of the four energies is past its top
 abbrev pub meterWithinTop : Meter → Bool

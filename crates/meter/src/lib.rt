@@ -136,7 +136,7 @@ impl Meter {
         let p = sample.p.in_force();
         next.counters = self.counters.plus(p, sample.q.in_force());
         next.latest = sample;
-        next.average = self.average.after(self.setup.code(), p.above());
+        next.average = self.average.after(self.setup.code(), p);
         next
     }
 

@@ -4,11 +4,11 @@ use borrow.Author.Needs.{needs}
 use Rattle.average.proofs.Average.blank.Statement.{statement}
 use Rattle.average.proofs.Average.blank.Tie as tie
 
-opened-requires : tie.Need-opened-requires
-opened-requires c κs = search needs
+blank-requires : tie.Need-blank-requires
+blank-requires c κs = search needs
 
 returns : tie.Need-returns
-returns c = rw (c .opened .ensures) refl
+returns c = rw (c .blank .ensures) refl
 
 pub blank-spec : {M : Type 1} → statement M
-blank-spec = tie.close (tie.spec opened-requires returns)
+blank-spec = tie.close (tie.spec blank-requires returns)

@@ -7,11 +7,11 @@ use Rattle.average.proofs.Average.recoded.Tie as tie
 returns : tie.Need-returns
 returns c = simp (eq-eqb _ _ (c .if1 .taken))
 
-opened-requires : tie.Need-opened-requires
-opened-requires c κs = search needs
+blank-requires : tie.Need-blank-requires
+blank-requires c κs = search needs
 
 returns-2 : tie.Need-returns-2
-returns-2 c = simp (ne-eqb _ _ (c .before .if1 .left), c .opened .ensures)
+returns-2 c = simp (ne-eqb _ _ (c .before .if1 .left), c .blank .ensures)
 
 pub recoded-spec : {M : Type 1} → statement M
-recoded-spec = tie.close (tie.spec returns opened-requires returns-2)
+recoded-spec = tie.close (tie.spec returns blank-requires returns-2)

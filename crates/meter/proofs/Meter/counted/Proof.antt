@@ -1,13 +1,12 @@
 -- The record and the sample are within limits, so every sum has room.
-use mathlib.Core.Path.{ap, _∙_}
-use Rattle.signed.specs.Signs.{aboveOf}
+use mathlib.Core.Path.{_∙_}
 use Rattle.average.specs.Windows.{afterSecond}
 use Rattle.average.proofs.Limits.{joins}
 use Rattle.meter.specs.Samples.{inForce}
 use Rattle.meter.specs.Energies.{withPowers}
 use Rattle.meter.specs.Groups.{codeOf}
 use Rattle.meter.specs.Meters.{meterT, withCounters, withLatest, withAverage}
-use Rattle.meter.proofs.Parts.{meter-parts, held-p, held-q, above-most, room}
+use Rattle.meter.proofs.Parts.{meter-parts, held-p, held-q, p-most, room}
 use borrow.Author.Needs.{needs}
 use Rattle.meter.proofs.Meter.counted.Statement.{statement}
 use Rattle.meter.proofs.Meter.counted.Tie as tie
@@ -29,24 +28,20 @@ plus-requires c κs =
 code-requires : tie.Need-code-requires
 code-requires c κs = search needs
 
-above-requires : tie.Need-above-requires
-above-requires c κs = search needs
-
 after-requires : tie.Need-after-requires
 after-requires c κs =
-    let s = c .before .before .before .before .before in
+    let s = c .before .before .before .before in
     let m = s .args .self in
-    rw (c .before .code .ensures, c .above .ensures, c .before .before .before .before .in-force .ensures)
-    (joins (meterT m) (codeOf (m .setup)) (m .average) (aboveOf (inForce (s .args .sample .p))) (meter-parts m (s .pre .0) .average) (above-most m (s .args .sample) (s .pre .0) (s .pre .1)))
+    rw (c .before .before .before .in-force .ensures)
+    (joins (meterT m) (codeOf (m .setup)) (m .average) (inForce (s .args .sample .p)) (meter-parts m (s .pre .0) .average) (p-most m (s .args .sample) (s .pre .0) (s .pre .1)))
 
 returns : tie.Need-returns
 returns c =
-    let p = c .before .before .before .before .before in
+    let p = c .before .before .before .before in
     let s = p .before in
     let m = s .args .self in
-    let sum = p .in-force .ensures in
-    let counters = c .before .before .before .plus .ensures ∙ (λ i. withPowers (m .counters) (sum i) (c .before .before .before .before .in-force2 .ensures i)) in
-    let average = c .after .ensures ∙ (λ i. afterSecond (c .before .before .code .ensures i) (m .average) ((c .before .above .ensures ∙ ap aboveOf sum) i)) in
+    let counters = c .before .before .plus .ensures ∙ (λ i. withPowers (m .counters) (p .in-force .ensures i) (c .before .before .before .in-force2 .ensures i)) in
+    let average = c .after .ensures ∙ (λ i. afterSecond (c .before .code .ensures i) (m .average) (p .in-force .ensures i)) in
     λ i. withAverage (withLatest (withCounters m (counters i)) (s .args .sample)) (average i)
 
 pub counted-spec : {M : Type 1} → statement M
@@ -57,6 +52,5 @@ counted-spec =
     in-force-requires-2
     plus-requires
     code-requires
-    above-requires
     after-requires
     returns)
