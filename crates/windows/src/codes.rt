@@ -1,77 +1,50 @@
-// Writes in the middle of a window: which of them open a new one.
+// Writes in the middle of a window.
 use crate::figures;
 use crate::frames;
 use board::Meter;
 
-pub fn examples(m: Meter) {
-    let longer = changed(m);
-    let same = there_and_back(longer);
-    to_all(same);
-    kept();
-}
-
-// 150 seconds, two whole minutes, of a window.
+// 150 seconds are two whole minutes. Their power is above the peak, so that it would show in an average.
 fn middle(m: Meter) -> Meter {
-    let open = figures::run(m, 150, 200_000, 0);
-    figures::show(open, b"150 seconds");
-    open
+    figures::after(m, 150, 200_000, b"150 seconds")
 }
 
-// From 5 minutes to 8: what was open is lost, average and peak are kept, and the next window has 480 seconds.
-fn changed(m: Meter) -> Meter {
-    let written = frames::send(
-        middle(m),
-        b"code 1 written",
-        &frames::standard_write(frames::METER, 1),
-    );
-    figures::show(written, b"after it");
-    let open = figures::run(written, 479, 90_000, 0);
-    figures::show(open, b"479 seconds");
-    let full = figures::run(open, 1, 90_000, 0);
-    figures::show(full, b"480 seconds");
-    full
+// A code written to a meter or, at address 0, to all, and the figures after it.
+fn written(m: Meter, address: u8, code: u8, name: &[u8]) -> Meter {
+    let next = frames::send(m, name, &frames::write(address, code));
+    figures::show(next, figures::WORD_BLOCK, b"  after it");
+    next
 }
 
-// Each of two changes opens a window, though the code is then as it was.
-fn there_and_back(m: Meter) -> Meter {
-    let there = frames::send(
-        middle(m),
-        b"code 0 written",
-        &frames::standard_write(frames::METER, 0),
-    );
-    let back = frames::send(
-        there,
-        b"code 1 written",
-        &frames::standard_write(frames::METER, 1),
-    );
-    figures::show(back, b"after both");
-    back
+// From 5 minutes to 8. A window of these is then filled.
+pub fn changed(m: Meter) -> Meter {
+    let longer = written(middle(m), 1, 1, b"code 1 written");
+    let open = figures::after(longer, 479, 90_000, b"479 seconds");
+    figures::after(open, 1, 90_000, b"480 seconds")
 }
 
-fn to_all(m: Meter) {
-    let written = frames::send(
-        middle(m),
-        b"code 0 written to all meters",
-        &frames::standard_write(frames::ALL_METERS, 0),
-    );
-    figures::show(written, b"after it");
+// With no second between the two writes.
+pub fn there_and_back(m: Meter) -> Meter {
+    let there = written(middle(m), 1, 0, b"code 0 written");
+    written(there, 1, 1, b"code 1 written")
 }
 
-// The same code with another word changed, a code that there is not, and the other group: the window stays open.
-fn kept() {
-    let open = middle(figures::new(1));
-    let same = frames::send(
-        open,
-        b"code 0 written again",
-        &frames::standard_write(frames::METER, 0),
+pub fn to_all(m: Meter) {
+    written(middle(m), 0, 0, b"code 0 written to all meters");
+}
+
+// The same code, a code that there is not, and the other group: the window stays open.
+pub fn kept() {
+    let same = written(middle(figures::new(1)), 1, 0, b"code 0 written");
+    let refused = written(same, 1, 7, b"code 7 written");
+    other_group(refused);
+}
+
+// The word at 0x220a, which stands there as the code does in its group, is 1.
+fn other_group(m: Meter) {
+    let other = frames::send(
+        m,
+        b"0x2200 written",
+        b"\x01\x10\x22\x00\x00\x18\x30\x00\x00\x00\x00\x00\x00\x00\x00\x00\x00\x00\x00\x00\x00\x00\x00\x00\x00\x00\x00\x00\x01\x00\x00\x00\x00\x00\x00\x00\x00\x00\x00\x00\x00\x00\x00\x00\x00\x00\x00\x00\x00\x00\x00\x00\x00\x00\x00\xDE\xA7",
     );
-    figures::show(same, b"after it");
-    let refused = frames::send(
-        same,
-        b"code 7 written",
-        &frames::standard_write(frames::METER, 7),
-    );
-    figures::show(refused, b"after it");
-    let other = frames::send(refused, b"0x2200 written", &frames::output_write());
-    figures::show(other, b"after it");
+    figures::show(other, figures::WORD_BLOCK, b"  after it");
 }

@@ -7,28 +7,33 @@ use board::Ratios;
 use board::Reply;
 use collector::Quantity;
 
-const BYTE_BLOCK: u16 = 0x0350;
+// Where the three figures stand, in five words.
+pub const BYTE_BLOCK: u16 = 0x0350;
 
-const WORD_BLOCK: u16 = 0x1027;
+pub const WORD_BLOCK: u16 = 0x1027;
 
 // A new meter without voltage transformers.
 pub fn new(kta: u16) -> Meter {
-    let made = Meter::new(frames::METER, Ratios { kta, ktv: 10 });
+    let made = Meter::new(1, Ratios { kta, ktv: 10 });
     made.meter
 }
 
-// The meter after some seconds. Phases 1 and 3 are as given, in hundredths of W; phase 2 starts at 0 and rises by one each second, so
-// that 3-phase P is not constant.
-pub fn run(m: Meter, seconds: u32, l1: i64, l3: i64) -> Meter {
+// Some seconds more, and the figures after them.
+pub fn after(m: Meter, seconds: u32, l1: i64, name: &[u8]) -> Meter {
+    let next = run(m, seconds, l1);
+    show(next, WORD_BLOCK, name);
+    next
+}
+
+// The meter after some seconds. Phase 1 has the power given, in hundredths of W; phase 2 rises from 0 by one each second, so that
+// 3-phase P is not constant.
+pub fn run(m: Meter, seconds: u32, l1: i64) -> Meter {
     let mut meter = m;
     let mut sample = m.latest;
     let mut k: u32 = 0;
     while k < seconds {
-        let p = Powers {
-            l1,
-            l2: k as i64,
-            l3,
-        };
+        let l2 = k as i64;
+        let p = Powers { l1, l2, l3: 0 };
         sample.p = p;
         let answered = meter.after(sample);
         meter = answered.meter;
@@ -39,30 +44,17 @@ pub fn run(m: Meter, seconds: u32, l1: i64, l3: i64) -> Meter {
     meter
 }
 
-// A sample is expected to be accepted: only a refusal is told.
+// Only a refused sample is told.
 fn told(answer: Answer) {
     if let Answer::Refused(reason) = answer {
-        say::text(b"a sample, ");
+        say::text(b"  a sample, ");
         say::refused(reason);
         say::end();
     }
 }
 
-// The three figures in both blocks.
-pub fn show_both(m: Meter, name: &[u8]) {
-    say::text(name);
-    say::end();
-    block(m, b"  from 0x0350", BYTE_BLOCK);
-    block(m, b"  from 0x1027", WORD_BLOCK);
-}
-
-// The three figures in the word block.
-pub fn show(m: Meter, name: &[u8]) {
-    block(m, name, WORD_BLOCK);
-}
-
-// The three figures by one read of five words.
-fn block(m: Meter, name: &[u8], start: u16) {
+// The three figures by one read.
+pub fn show(m: Meter, start: u16, name: &[u8]) {
     say::text(name);
     let request = frames::read(start, 5);
     let mut buffer = [0u8; frames::REPLY_ROOM];
@@ -84,7 +76,7 @@ fn three(request: &[u8], reply: &[u8], ratios: Ratios) {
     say::end();
 }
 
-// One item of a reply as the collector reads it.
+// One item of a reply, as the collector reads it.
 pub fn item(name: &[u8], request: &[u8], reply: &[u8], ratios: Ratios, index: usize) {
     say::text(name);
     let answer = collector::read(request, reply, ratios, index);
@@ -95,13 +87,11 @@ pub fn item(name: &[u8], request: &[u8], reply: &[u8], ratios: Ratios, index: us
     }
 }
 
-// A power in hundredths of W, or a plain word. No other kind of reading is asked for.
+// A power in hundredths of W, or a plain word: nothing else is asked for.
 fn figure(quantity: Quantity) {
     if let Quantity::Power(hundredths) = quantity {
         say::number(hundredths);
     } else if let Quantity::Plain(word) = quantity {
         say::number(word as u64);
-    } else {
-        say::text(b"another kind of reading");
     }
 }

@@ -3,52 +3,36 @@ use crate::figures;
 use crate::frames;
 use board::Meter;
 
-// Two windows, the second lower. Hands back the meter after them.
-pub fn examples() -> Meter {
-    let first = rounded_down();
-    lower(first)
-}
-
-// 299 seconds, then one that leaves the sum 299 above a multiple of the 300 seconds; then the first second of the next window.
-fn rounded_down() -> Meter {
-    let open = figures::run(figures::new(1), 299, 100_000, 0);
-    figures::show_both(open, b"299 seconds");
-    let full = figures::run(open, 1, 120_248, 0);
-    figures::show_both(full, b"300 seconds");
+// A window whose sum is 299 above a multiple of its 300 seconds, and the first second of the next.
+pub fn rounded_down() -> Meter {
+    let open = figures::after(figures::new(1), 299, 100_000, b"299 seconds");
+    figures::show(open, figures::BYTE_BLOCK, b"  byte block");
+    let full = figures::after(open, 1, 120_248, b"300 seconds");
+    figures::show(full, figures::BYTE_BLOCK, b"  byte block");
     alone(full);
-    let next = figures::run(full, 1, 100_000, 0);
-    figures::show_both(next, b"301 seconds");
+    let next = figures::after(full, 1, 100_000, b"301 seconds");
+    figures::show(next, figures::BYTE_BLOCK, b"  byte block");
     next
 }
 
 // Each of the six places by a read of its own.
 fn alone(m: Meter) {
-    frames::ask(m, 0x0350, 2);
-    frames::ask(m, 0x0354, 2);
-    frames::ask(m, 0x0358, 1);
-    frames::ask(m, 0x1027, 2);
-    frames::ask(m, 0x1029, 2);
-    frames::ask(m, 0x102B, 1);
+    frames::ask(m, 0x0350, 2, b"  0x0350");
+    frames::ask(m, 0x0354, 2, b"  0x0354");
+    frames::ask(m, 0x0358, 1, b"  0x0358");
+    frames::ask(m, 0x1027, 2, b"  0x1027");
+    frames::ask(m, 0x1029, 2, b"  0x1029");
+    frames::ask(m, 0x102B, 1, b"  0x102b");
 }
 
-// The rest of a second window, below the first. In its last two seconds phase 3 is positive; where 3-phase P is negative it adds
-// nothing all the same, and the second counts.
-fn lower(m: Meter) -> Meter {
-    let open = figures::run(m, 297, 60_000, 0);
-    figures::show(open, b"298 seconds of the second window");
-    let less = figures::run(open, 1, -900_000, 50_000);
-    let full = figures::run(less, 1, -900_000, 50_000);
-    figures::show(full, b"two seconds of -850000 hundredths of W");
-    full
+// The rest of a second window. In its last 200 seconds P is negative, though phase 2 is not.
+pub fn lower(m: Meter) -> Meter {
+    let open = figures::after(m, 99, 60_000, b"400 seconds");
+    figures::after(open, 200, -900_000, b"600 seconds, 200 of negative P")
 }
 
-// The same seconds on both sides of T = 50,000: from there on a register has whole W, and the collector reads hundredths of W from
-// either.
+// The same seconds below T = 50,000 and at it, where a register has whole W.
 pub fn units() {
-    figures::show(window(4_999), b"T 49990");
-    figures::show(window(5_000), b"T 50000");
-}
-
-fn window(kta: u16) -> Meter {
-    figures::run(figures::new(kta), 300, 1_234_418, 0)
+    figures::after(figures::new(4_999), 300, 1_234_418, b"T 49990");
+    figures::after(figures::new(5_000), 300, 1_234_418, b"T 50000");
 }

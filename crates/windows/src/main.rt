@@ -5,23 +5,23 @@ mod figures;
 mod frames;
 mod full;
 mod limits;
-mod records;
 
 fn main() {
     longer_directory();
-    let m = full::examples();
-    codes::examples(m);
+    let m = full::lower(full::rounded_down());
+    codes::to_all(codes::there_and_back(codes::changed(m)));
+    codes::kept();
     full::units();
     limits::energy_top();
     limits::minutes();
-    records::examples();
+    limits::records();
 }
 
-// Reads of a new meter that stop inside the average or behind it, and at the last item of the byte block or past it.
+// Reads of a new meter that end inside the average and behind it, at the end of the byte block and past it.
 fn longer_directory() {
     let m = figures::new(1);
-    frames::ask(m, 0x034D, 4);
-    frames::ask(m, 0x034D, 5);
-    frames::ask(m, 0x0300, 69);
-    frames::ask(m, 0x0300, 70);
+    frames::ask(m, 0x034D, 4, b"4 words from 0x034d");
+    frames::ask(m, 0x034D, 5, b"5 words from 0x034d");
+    frames::ask(m, 0x0300, 69, b"69 words from 0x0300");
+    frames::ask(m, 0x0300, 70, b"70 words from 0x0300");
 }

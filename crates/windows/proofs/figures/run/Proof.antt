@@ -5,16 +5,16 @@ use Rattle.windows.proofs.figures.run.Statement.{statement}
 use Rattle.windows.proofs.figures.run.Tie as tie
 
 abbrev Inv-loop : tie.InvT-loop
-Inv-loop seconds l1 l3 meter₀ sample₀ k₀ meter sample k = k ≤ seconds
+Inv-loop seconds l1 meter₀ sample₀ k₀ meter sample k = k ≤ seconds
 
 abbrev μ-loop : tie.MeasureT-loop
-μ-loop seconds l1 l3 meter₀ sample₀ k₀ meter sample k = seconds - k
+μ-loop seconds l1 meter₀ sample₀ k₀ meter sample k = seconds - k
 
 loop-holds : tie.Need-loop-holds Inv-loop μ-loop
 loop-holds c = search needs
 
-cast-t12 : tie.Need-cast-t12 Inv-loop μ-loop
-cast-t12 c = search needs
+cast-l2 : tie.Need-cast-l2 Inv-loop μ-loop
+cast-l2 c = search needs
 
 after-requires : tie.Need-after-requires Inv-loop μ-loop
 after-requires c κs = search needs
@@ -41,7 +41,7 @@ run-spec =
     Inv-loop
     μ-loop
     loop-holds
-    cast-t12
+    cast-l2
     after-requires
     told-requires
     add-k

@@ -14,6 +14,12 @@ sent c = reply-long _ _ _ (c .before .before .before .handle .ensures .handled) 
 text-requires : tie.Need-text-requires
 text-requires c κs = search needs
 
+slice-aggregate-told : tie.Need-slice-aggregate-told
+slice-aggregate-told c = search needs
+
+told-requires : tie.Need-told-requires
+told-requires c κs = search needs
+
 slice-aggregate-handle : tie.Need-slice-aggregate-handle
 slice-aggregate-handle c = search needs
 
@@ -29,14 +35,20 @@ unanswered-requires c κs = search needs
 returns : tie.Need-returns
 returns c = search needs
 
+slice-aggregate-told-2 : tie.Need-slice-aggregate-told-2
+slice-aggregate-told-2 c = search needs
+
 array-share-prefix-buffer : tie.Need-array-share-prefix-buffer
-array-share-prefix-buffer c = omega (arith, sent (c .before))
+array-share-prefix-buffer c = omega (arith, sent (c .before .before))
 
-slice-aggregate-answered : tie.Need-slice-aggregate-answered
-slice-aggregate-answered c = sym (length-take-le _ _ (omega (arith, sent (c .before .before))))
+slice-aggregate-told-3 : tie.Need-slice-aggregate-told-3
+slice-aggregate-told-3 c = sym (length-take-le _ _ (omega (arith, sent (c .before .before .before))))
 
-answered-requires : tie.Need-answered-requires
-answered-requires c κs = search needs
+told-requires-2 : tie.Need-told-requires-2
+told-requires-2 c κs = search needs
+
+end-requires : tie.Need-end-requires
+end-requires c κs = search needs
 
 returns-2 : tie.Need-returns-2
 returns-2 c = search needs
@@ -46,12 +58,16 @@ send-spec =
     tie.close
     (tie.spec
     text-requires
+    slice-aggregate-told
+    told-requires
     slice-aggregate-handle
     handle-requires
     enum-known-did
     unanswered-requires
     returns
+    slice-aggregate-told-2
     array-share-prefix-buffer
-    slice-aggregate-answered
-    answered-requires
+    slice-aggregate-told-3
+    told-requires-2
+    end-requires
     returns-2)

@@ -5,8 +5,8 @@ use native.Mathlib.Omega.{arith}
 use lib.Seq.{length-take-le}
 use Rattle.board.proofs.Lengths.{reply-long}
 use borrow.Author.Needs.{needs}
-use Rattle.windows.proofs.figures.block.Statement.{statement}
-use Rattle.windows.proofs.figures.block.Tie as tie
+use Rattle.windows.proofs.figures.show.Statement.{statement}
+use Rattle.windows.proofs.figures.show.Tie as tie
 
 sent : (c : tie.After-did) → c .did .given .0 .0 ≤ 256
 sent c = reply-long _ _ _ (c .before .before .before .handle .ensures .handled) (c .did .given .1)
@@ -50,8 +50,8 @@ three-requires c κs = search needs
 returns-2 : tie.Need-returns-2
 returns-2 c = search needs
 
-pub block-spec : {M : Type 1} → statement M
-block-spec =
+pub show-spec : {M : Type 1} → statement M
+show-spec =
     tie.close
     (tie.spec
     text-requires
