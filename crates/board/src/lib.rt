@@ -13,6 +13,8 @@ use refusal::ErrorCode;
 use store::Verdict;
 
 // All that a board's program needs is here: `handle`, and the meter with the types of its record, its samples and its answers.
+pub use average::Average;
+pub use average::Window;
 pub use counts::WattHours;
 pub use meter::Answer;
 pub use meter::Answered;
