@@ -18,10 +18,7 @@ impl Window {
     fn blank() -> Window
         ensures { λ r. ⌜ r ≡ noWindow ⌝ }
     {
-        Window {
-            seconds: 0,
-            sum: 0,
-        }
+        Window { seconds: 0, sum: 0 }
     }
 
     // The window with one second more. A negative P adds 0 to its sum.

@@ -21,6 +21,7 @@ use Rattle.directory.proofs.Rules.{directory-rules}
 use Rattle.meter.specs.declared.groups.Setup.{Setup}
 use Rattle.meter.specs.declared.Meter.{Meter}
 use Rattle.meter.specs.Samples.{factorOf}
+use Rattle.meter.specs.Groups.{codeOf}
 use Rattle.meter.specs.Meters.{meterT, meterOk, withSetup, energyAt}
 use Rattle.meter.proofs.Parts.{two-at-most, SampleParts, sample-parts, meter-parts, figures, last-most, minutes-most, ratio-parts}
 use Rattle.registers.specs.Shown.{powerAt, powerValues, signedWordValues, signValues, countValues, lowValues, highValues, wrapValues, factorValues, plainValues, kindsShown, shownOf}
@@ -239,11 +240,16 @@ module _ (dir : List Item) (tests : T (tested dir)) (i : ℕ) (inside : i < leng
   pub typed-shows : (m : Meter) → Typed m → meterOk m ≡ true → Shows m (it .quantity)
   typed-shows m typed h = record { case = case m typed h (it .quantity) (known .0); fits = fits m typed h (it .quantity) }
 
+code-shown : (m : Meter) → Typed m → shownOf m (quantity plain (setup2000 0x0a)) ≡ codeOf (m .setup)
+unfolding shownOf plainValues
+code-shown m typed = List·getD-append (m .setup .standard) (m .setup .output) 0 0x0a (omega (arith, typed .setup .standard .long))
+
 pub every-case : (m : Meter) → Typed m → meterOk m ≡ true → EveryCase m
 every-case m typed h = record {
   case = case m typed h;
   fits = fits m typed h;
   room = λ dir tests i l. in-room dir tests i l (fits m typed h (getD dir i none .quantity));
+  code = code-shown m typed;
 }
 
 -- the kinds before plain words have no setup word among their values, nor have the first four plain words

@@ -12,6 +12,7 @@ use Rattle.directory.specs.Order.{roomOf, tested}
 use Rattle.meter.specs.declared.samples.Sample.{Sample}
 use Rattle.meter.specs.declared.groups.Setup.{Setup}
 use Rattle.meter.specs.declared.Meter.{Meter}
+use Rattle.meter.specs.Groups.{codeOf}
 use Rattle.meter.specs.Meters.{withSetup}
 use Rattle.registers.specs.Shown.{kindsShown, shownOf}
 
@@ -39,13 +40,15 @@ pub record Typed (m : Meter) : Type 0 where
   pub setup : SetupTyped (m .setup)
 
 -- STATEMENT: of a record as a program holds it, and within limits: a quantity is one of its kind's values, what is shown of it fits its
--- bytes, and each item of a directory that passes the tests has room for what it shows
+-- bytes, and each item of a directory that passes the tests has room for what it shows; what is shown at 0x200a is the code that
+-- request 1's windows go by
 pub record EveryCase (m : Meter) : Type 0 where
   pub case : (q : ℕ) → 1 ≤ widthOf q → q % 64 < length (getD (kindsShown m) (q / 64) [])
   pub fits : (q : ℕ) → shownOf m q < 256 ^ widthOf q
   pub room :
       (dir : List Item) → T (tested dir) → (i : ℕ) → i < length dir →
       shownOf m (getD dir i none .quantity) < 256 ^ roomOf (getD dir i none)
+  pub code : shownOf m (quantity plain (setup2000 0x0a)) ≡ codeOf (m .setup)
 
 -- STATEMENT: setup words alter nothing that a record shows, 0x200a nothing either: what is shown of every quantity but these words
 -- themselves, which are numbered last, is the same with others

@@ -1,7 +1,26 @@
-// Writes in the middle of a window.
+// Windows by their code, and writes in the middle of a window.
 use crate::figures;
 use crate::frames;
 use board::Meter;
+
+// Each code: 5, 8, 10, 15, 20, 30 and 60 minutes.
+pub fn each() {
+    filled(0, 299);
+    filled(1, 479);
+    filled(2, 599);
+    filled(3, 899);
+    filled(4, 1_199);
+    filled(5, 1_799);
+    filled(6, 3_599);
+}
+
+// A window of a code, with all its seconds but one, and then full.
+fn filled(code: u8, seconds: u32) {
+    say::sentence(b"code #", &[code as u64]);
+    let m = frames::send(figures::new(1), b" written", &frames::write(1, code));
+    let open = figures::after(m, seconds, 1_000, b"  with all but one");
+    figures::after(open, 1, 1_000, b"  full");
+}
 
 // 150 seconds are two whole minutes. Their power is above the peak, so that it would show in an average.
 fn middle(m: Meter) -> Meter {

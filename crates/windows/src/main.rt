@@ -11,6 +11,7 @@ fn main() {
     let m = full::lower(full::rounded_down());
     codes::to_all(codes::there_and_back(codes::changed(m)));
     codes::kept();
+    codes::each();
     full::units();
     limits::energy_top();
     limits::minutes();
