@@ -5,6 +5,9 @@ ghost use Prim.Native.Nat.{_<_};
 ghost use Rattle.average.specs.Windows.{codedMinutes, windowSeconds, noWindow, noAverage, joinedBy, meanOf, larger, closedBy, afterSecond, recodedBy, minutesOf, averageOk, Joins};
 use signed::Signed;
 
+// In seconds.
+const A_MINUTE: u16 = 60;
+
 // The open window.
 pub struct Window {
     // How many seconds have joined it.
@@ -118,7 +121,7 @@ impl Average {
     pub fn minutes(self) -> u16
         ensures { λ r. ⌜ r ≡ minutesOf self ⌝ }
     {
-        self.window.seconds / 60
+        self.window.seconds / A_MINUTE
     }
 }
 
@@ -147,5 +150,5 @@ fn coded_minutes(code: u16) -> u16
 fn window_seconds(code: u16) -> u16
     ensures { λ r. ⌜ r ≡ windowSeconds code ⌝ }
 {
-    coded_minutes(code) * 60
+    coded_minutes(code) * A_MINUTE
 }

@@ -11,6 +11,9 @@ pub struct Setup {
 }
 
 impl Setup {
+    // Where the code of the window stands in its group: at 0x200a.
+    const CODE_AT: usize = 0x0a;
+
     // The setup of a new meter: every word 0.
     pub(crate) fn blank() -> Setup
         ensures { λ r. ⌜ r ≡ noSetup ⌝ }
@@ -29,11 +32,11 @@ impl Setup {
         setup::standard_ok(standard) & setup::output_ok(output)
     }
 
-    // The code of the window, at 0x200a.
+    // The code of the window.
     pub(crate) fn code(self) -> u16
         ensures { λ r. ⌜ r ≡ codeOf self ⌝ }
     {
         let standard = self.standard;
-        standard[10]
+        standard[Setup::CODE_AT]
     }
 }
