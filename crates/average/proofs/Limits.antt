@@ -12,7 +12,8 @@ use Rattle.ratio.specs.Powers.{powerLimit}
 use Rattle.ratio.proofs.Powers.{power-laws}
 use Rattle.average.specs.declared.Window.{Window}
 use Rattle.average.specs.declared.Average.{Average}
-use Rattle.average.specs.Windows.{codedMinutes, windowSeconds, noAverage, joinedBy, meanOf, larger, closedBy, afterSecond, openedOf, recodedBy, averageOk, AverageWithin, AverageLimits, Joins}
+use Rattle.average.specs.Windows.{codedMinutes, windowSeconds, noAverage, joinedBy, meanOf, larger, closedBy, afterSecond, openedOf, recodedBy, averageOk, AverageWithin, AverageLimits, WindowLengths}
+use Rattle.average.specs.Fits.{Joins}
 
 -- ---- the seconds of a window
 
@@ -37,6 +38,10 @@ coded-fits (suc (suc (suc (suc zero)))) = (omega arith, omega arith)
 coded-fits (suc (suc (suc (suc (suc zero))))) = (omega arith, omega arith)
 coded-fits (suc (suc (suc (suc (suc (suc zero)))))) = (omega arith, omega arith)
 coded-fits (suc (suc (suc (suc (suc (suc (suc code))))))) = (omega arith, omega arith)
+
+pub window-lengths : WindowLengths
+unfolding codedMinutes
+window-lengths = record { seconds = refl }
 
 -- ---- the limits
 

@@ -3,12 +3,12 @@ use mathlib.Core.Path.{_≡_}
 use mathlib.Core.Logic.{_↔_}
 use Prim.Native.Nat.{ℕ, _+_, _*_, _/_, _≤_, _<_}
 use mathlib.Core.Bool.{Bool, true, _&&_, cond}
-use mathlib.Core.List.{[], _∷_}
+use mathlib.Core.List.{[], _∷_, map}
 use lib.Dec.{leb, ltb, eqb}
 use lib.ListN.{getD}
 use Rattle.signed.specs.declared.Signed.{Signed}
 use Rattle.signed.specs.Signs.{aboveOf}
-use Rattle.ratio.specs.Powers.{topPower, powerLimit}
+use Rattle.ratio.specs.Powers.{powerLimit}
 use Rattle.average.specs.declared.Window.{Window}
 use Rattle.average.specs.declared.Average.{Average}
 
@@ -20,13 +20,13 @@ codedMinutes code = getD (5 ∷ 8 ∷ 10 ∷ 15 ∷ 20 ∷ 30 ∷ 60 ∷ []) cod
 abbrev pub windowSeconds : ℕ → ℕ
 windowSeconds code = codedMinutes code * 60
 
+-- STATEMENT: the seconds of each code's window: those of 5, 8, 10, 15, 20, 30 and 60 minutes
+pub record WindowLengths : Type 0 where
+  pub seconds : map windowSeconds (0 ∷ 1 ∷ 2 ∷ 3 ∷ 4 ∷ 5 ∷ 6 ∷ []) ≡ 300 ∷ 480 ∷ 600 ∷ 900 ∷ 1200 ∷ 1800 ∷ 3600 ∷ []
+
 -- a window that is just opened
 abbrev pub noWindow : Window
 noWindow = record { seconds = 0; sum = 0 }
-
--- on a new meter all are 0
-abbrev pub noAverage : Average
-noAverage = record { window = noWindow; last = 0; peak = 0 }
 
 -- one second more, of a 3-phase P: positive it joins the sum, negative it adds 0; the second is counted
 abbrev pub joinedBy : Window → Signed → Window
@@ -51,6 +51,10 @@ afterSecond code a p =
     (record { window = joinedBy (a .window) p; last = a .last; peak = a .peak })
     (closedBy a (joinedBy (a .window) p))
 
+-- minutes are whole ones of the open window
+abbrev pub minutesOf : Average → ℕ
+minutesOf a = a .window .seconds / 60
+
 -- a new window is opened, keeping average and peak
 abbrev pub openedOf : Average → Average
 openedOf a = record { window = noWindow; last = a .last; peak = a .peak }
@@ -59,9 +63,9 @@ openedOf a = record { window = noWindow; last = a .last; peak = a .peak }
 abbrev pub recodedBy : ℕ → ℕ → Average → Average
 recodedBy before after a = cond (eqb before after) a (openedOf a)
 
--- minutes are whole ones of the open window
-abbrev pub minutesOf : Average → ℕ
-minutesOf a = a .window .seconds / 60
+-- on a new meter all are 0
+abbrev pub noAverage : Average
+noAverage = record { window = noWindow; last = 0; peak = 0 }
 
 -- the figures are within limits at a ratio of t tenths, in windows of a code: open seconds below the window's, an open sum at most open
 -- seconds times the power limit, an average at most the peak, and a peak at most the power limit
@@ -82,9 +86,3 @@ pub record AverageWithin (t code : ℕ) (a : Average) : Type 0 where
 -- STATEMENT: the figures are within limits exactly when none of request 1's four rows of refusal 1 is true of them
 pub record AverageLimits (t code : ℕ) (a : Average) : Type 0 where
   pub when : (averageOk t code a ≡ true) ↔ AverageWithin t code a
-
--- a window and a power that the leaf which counts a second asks for, so that its sums fit
-pub record Joins (w : Window) (p : Signed) : Type 0 where
-  pub seconds : w .seconds ≤ 3600
-  pub sum : w .sum ≤ w .seconds * topPower
-  pub most : p .magnitude ≤ topPower

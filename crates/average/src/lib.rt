@@ -2,7 +2,8 @@
 // that is open. Powers are in hundredths of W.
 ghost use mathlib.Core.Path.{_≡_};
 ghost use Prim.Native.Nat.{_<_};
-ghost use Rattle.average.specs.Windows.{codedMinutes, windowSeconds, noWindow, noAverage, joinedBy, meanOf, larger, closedBy, afterSecond, recodedBy, minutesOf, averageOk, Joins};
+ghost use Rattle.average.specs.Windows.{codedMinutes, windowSeconds, noWindow, noAverage, joinedBy, meanOf, larger, closedBy, afterSecond, recodedBy, minutesOf, averageOk};
+ghost use Rattle.average.specs.Fits.{Joins};
 use signed::Signed;
 
 // In seconds.

@@ -6,9 +6,9 @@ use mathlib.Core.Bool.{Bool, true, false, cond}
 use mathlib.Core.List.{List, [], _∷_}
 use Prim.Native.Nat.{ℕ, _+_, _/_, _<_}
 use native.Mathlib.Omega.{arith}
-use lib.Dec.{T, eqb, ltb}
+use lib.Dec.{T, leb, eqb, ltb}
 use lib.ListN.{length}
-use borrow.Author.Tests.{eq-eqb, ne-eqb, ltb-true, ltb-false}
+use borrow.Author.Tests.{eq-eqb, ne-eqb, le-leb, lt-leb, ltb-true, ltb-false}
 use Rattle.signed.specs.declared.Signed.{Signed}
 use Rattle.signed.specs.Signs.{aboveOf}
 use Rattle.ratio.specs.declared.Ratios.{Ratios}
@@ -36,7 +36,7 @@ use Rattle.registers.proofs.Widths.{average-shows, peak-shows, minutes-shows}
 use Rattle.board.specs.Board.{boardIn}
 use Rattle.demands.specs.Meaning.{roundedPower, powerMeanings, meaningOf}
 use Rattle.demands.specs.Histories.{Event, afterEvent, afterAll}
-use Rattle.demands.specs.Averages.{Layout, noLayout, laidIn, droppedOf, total, largest, lastIn, peakIn, laidBy, laidAll, layoutOf, AveragesRead}
+use Rattle.demands.specs.Averages.{Layout, noLayout, laidIn, droppedOf, total, averageOf, largest, lastIn, peakIn, laidBy, laidAll, layoutOf, AveragesRead}
 use Rattle.demands.proofs.Frames.{Kept, kept}
 use Rattle.demands.proofs.Polls.{poll-reads}
 use Rattle.demands.proofs.Histories.{after-events}
@@ -51,6 +51,14 @@ record Figured (a : Average) (l : Layout) : Type 0 where
 none-figured : Figured noAverage noLayout
 unfolding total largest
 none-figured = record { seconds = refl; sum = refl; last = refl; peak = refl }
+
+-- the larger of two, by the other test
+larger-is : (a b : ℕ) → larger a b ≡ cond (leb b a) a b
+larger-is a b = by (ltb a b) refl
+  where
+    by : (t : Bool) → ltb a b ≡ t → cond t b a ≡ cond (leb b a) a b
+    by true e = sym (ap (λ (x : Bool). cond x a b) (lt-leb b a (ltb-true a b e)))
+    by false e = sym (ap (λ (x : Bool). cond x a b) (le-leb b a (ltb-false a b e)))
 
 -- ---- a second
 
@@ -76,7 +84,7 @@ module _ (code : ℕ) (q : Signed) (a : Average) (l : Layout) (fewer : a .window
       rw short (record { seconds = joined-seconds; sum = joined-sum; last = f .last; peak = f .peak })
   picked false e =
       let whole : eqb (length (p ∷ l .begun)) (windowSeconds code) ≡ true = eq-eqb (length (p ∷ l .begun)) (windowSeconds code) (omega (arith, joined-seconds, fewer, ltb-false (a .window .seconds + 1) (windowSeconds code) e)) in
-      rw whole (record { seconds = refl; sum = refl; last = mean; peak = λ i. larger (f .peak i) (mean i) })
+      rw whole (record { seconds = refl; sum = refl; last = mean; peak = (λ i. larger (f .peak i) (mean i)) ∙ larger-is (peakIn l) (averageOf (p ∷ l .begun)) })
 
   second-figured : Figured (afterSecond code a q) (laidIn (windowSeconds code) p l)
   unfolding afterSecond

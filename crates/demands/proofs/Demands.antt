@@ -13,7 +13,7 @@ use Rattle.modbus.proofs.Judged.{read-when}
 use Rattle.reading.proofs.Told.{one-answer-each}
 use Rattle.collector.proofs.When as collector
 use Rattle.collector.proofs.Joins.{joins-when}
-use Rattle.average.proofs.Limits.{average-limits}
+use Rattle.average.proofs.Limits.{window-lengths, average-limits}
 use Rattle.meter.proofs.Parts.{zero-to-neither}
 use Rattle.meter.proofs.Accepts.{new-answers, sample-answers, setup-idle, code-counts}
 use Rattle.store.proofs.Verdicts.{write-when}
@@ -72,6 +72,7 @@ replies = record {
   writes = write-when;
   shown = every-case;
   zero = zero-to-neither;
+  window-lengths = window-lengths;
   averages = average-limits;
   setup-idle = setup-idle;
   setup-always = setup-idle-always;

@@ -8,7 +8,7 @@ use native.Mathlib.Omega.{arith}
 use lib.Dec.{T, leb}
 use lib.IntN.{pos}
 use lib.ListN.{length, replicate, length-replicate}
-use borrow.Author.Tests.{le-leb, lt-ltb, ne-eqb}
+use borrow.Author.Tests.{le-leb, lt-leb, ne-eqb}
 use Rattle.signed.specs.Signs.{aboveOf}
 use Rattle.signed.proofs.Sums.{above-le, below-le}
 use Rattle.ratio.specs.declared.Ratios.{Ratios}
@@ -183,7 +183,7 @@ same-average x =
 alone : (x : ℕ) → largest (x ∷ []) ≡ x
 unfolding largest
 alone zero = refl
-alone (suc x) = rw (lt-ltb 0 (suc x) (omega arith)) refl
+alone (suc x) = rw (lt-leb (suc x) 0 (omega arith)) refl
 
 module _ (v : View) (good : T (passes v)) where
   pub window-fills : (address : ℕ) (r : Ratios) (x : ℕ) → newOf address r .answer ≡ Accepted → x ≤ powerLimit (tOf r) → WindowFills v address r x

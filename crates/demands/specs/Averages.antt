@@ -4,14 +4,14 @@ use mathlib.Core.Path.{_≡_}
 use Prim.Native.Nat.{ℕ, _+_, _/_, _≤_, _<_}
 use mathlib.Core.Bool.{cond}
 use mathlib.Core.List.{List, [], _∷_, map}
-use lib.Dec.{eqb}
+use lib.Dec.{leb, eqb}
 use lib.IntN.{pos}
 use lib.ListN.{length, getD, replicate}
 use Rattle.signed.specs.Signs.{aboveOf}
 use Rattle.ratio.specs.declared.Ratios.{Ratios}
 use Rattle.ratio.specs.Ratios.{tOf}
 use Rattle.ratio.specs.Powers.{powerLimit}
-use Rattle.average.specs.Windows.{windowSeconds, larger}
+use Rattle.average.specs.Windows.{windowSeconds}
 use Rattle.directory.specs.Quantity.{quantity, power, plain, average, peak, minutes}
 use Rattle.directory.specs.Views.{View}
 use Rattle.reading.specs.declared.Quantity.the-variants as read
@@ -57,7 +57,7 @@ averageOf window = total window / length window
 -- the largest of some; 0 where there is none
 unfoldable pub largest : List ℕ → ℕ
 largest [] = 0
-largest (n ∷ ns) = larger (largest ns) n
+largest (n ∷ ns) = cond (leb n (largest ns)) (largest ns) n
 
 -- the average of the last full window; 0 while there is none
 abbrev pub lastIn : Layout → ℕ
@@ -95,8 +95,8 @@ module _ (v : View) where
 
   module _ (address : ℕ) (r : Ratios) (xs : List Event) where
     -- the meter now
-    abbrev pub current : Meter
-    current = afterAll v (newOf address r .meter) xs
+    abbrev pub meterNow : Meter
+    meterNow = afterAll v (newOf address r .meter) xs
 
     -- all events since new, laid out
     abbrev pub layoutOf : Layout
@@ -108,13 +108,13 @@ module _ (v : View) where
     pub record AveragesRead : Type 0 where
       pub average-read :
           (p : Poll v address (quantity power average)) →
-          collected v r current p ≡ Reading (read.Power (roundedPower (tOf r) (lastIn layoutOf)))
+          collected v r meterNow p ≡ Reading (read.Power (roundedPower (tOf r) (lastIn layoutOf)))
       pub peak-read :
           (p : Poll v address (quantity power peak)) →
-          collected v r current p ≡ Reading (read.Power (roundedPower (tOf r) (peakIn layoutOf)))
+          collected v r meterNow p ≡ Reading (read.Power (roundedPower (tOf r) (peakIn layoutOf)))
       pub minutes-read :
-          (p : Poll v address (quantity plain minutes)) → collected v r current p ≡ Reading (read.Plain (minutesIn layoutOf))
-      pub begun-fewer : length (layoutOf .begun) < windowSeconds (codeOf (current .setup))
+          (p : Poll v address (quantity plain minutes)) → collected v r meterNow p ≡ Reading (read.Plain (minutesIn layoutOf))
+      pub begun-fewer : length (layoutOf .begun) < windowSeconds (codeOf (meterNow .setup))
 
   -- STATEMENT: windows do fill. On a new meter a steady load is nothing to average and peak for 299 seconds, and with the 300th it is both
   pub record WindowFills (address : ℕ) (r : Ratios) (load : ℕ) : Type 0 where
@@ -122,10 +122,10 @@ module _ (v : View) where
     pub filled : layoutOf address r (steady 300 load) ≡ record { full = replicate 300 load ∷ []; begun = [] }
     pub average-read :
         (p : Poll v address (quantity power average)) →
-        collected v r (current address r (steady 300 load)) p ≡ Reading (read.Power (roundedPower (tOf r) load))
+        collected v r (meterNow address r (steady 300 load)) p ≡ Reading (read.Power (roundedPower (tOf r) load))
     pub peak-read :
         (p : Poll v address (quantity power peak)) →
-        collected v r (current address r (steady 300 load)) p ≡ Reading (read.Power (roundedPower (tOf r) load))
+        collected v r (meterNow address r (steady 300 load)) p ≡ Reading (read.Power (roundedPower (tOf r) load))
 
   -- STATEMENT: so it is of every accepted new meter, whatever came to it, and of every load within the power limit
   pub record AveragesAlways : Type 0 where

@@ -25,7 +25,7 @@ use Rattle.modbus.specs.Read.{ReadWhen}
 use Rattle.reading.specs.Told.{OneAnswerEach}
 use Rattle.collector.specs.When.{RepliesWhen, NotMisread, JoinsWhen}
 use Rattle.average.specs.declared.Average.{Average}
-use Rattle.average.specs.Windows.{AverageLimits}
+use Rattle.average.specs.Windows.{WindowLengths, AverageLimits}
 use Rattle.meter.specs.declared.samples.Sample.{Sample}
 use Rattle.meter.specs.declared.groups.Setup.{Setup}
 use Rattle.meter.specs.declared.Meter.{Meter}
@@ -104,6 +104,7 @@ pub record Replies : Type 0 where
   pub writes : (m : Meter) (frame : List ℕ) → WriteWhen m frame
   pub shown : (m : Meter) → Typed m → meterOk m ≡ true → EveryCase m
   pub zero : ZeroToNeither
+  pub window-lengths : WindowLengths
   pub averages : (t code : ℕ) (a : Average) → AverageLimits t code a
   pub setup-idle : (m : Meter) (s : Sample) (setup : Setup) (a : Average) → SetupIdle m s setup a
   pub setup-always : EveryView SetupIdleAlways

@@ -230,7 +230,7 @@ module _ (m : Meter) (s : Sample) (setup : Setup) where
   -- with any code and figures: the tests are the same, and the next meters alike but for the figures
   module _ (a : Average) where
     abbrev left : Answered → Answered → Answered
-    left mine theirs = answerWith (mine .answer) (withSetup (withAverage (mine .meter) (theirs .meter .average)) setup)
+    left mine theirs = answerWith (mine .answer) (other (mine .meter) setup (theirs .meter .average))
 
     alike : (b c : Bool) → chosen true b c (other m setup a) (nextOf (other m setup a) s) ≡ left (chosen true b c m (nextOf m s)) (chosen true b c (other m setup a) (nextOf (other m setup a) s))
     alike true true = refl

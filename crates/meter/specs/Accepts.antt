@@ -71,7 +71,7 @@ module _ (m : Meter) (s : Sample) where
     pub code :
         meterOk m ≡ true → meterOk (other m setup a) ≡ true →
         afterOf (other m setup a) s ≡
-        answerWith (afterOf m s .answer) (withSetup (withAverage (afterOf m s .meter) (afterOf (other m setup a) s .meter .average)) setup)
+        answerWith (afterOf m s .answer) (other (afterOf m s .meter) setup (afterOf (other m setup a) s .meter .average))
 
 -- a new meter without transformers, under a code of the window, of which 299 seconds have passed
 abbrev pub at299 : ℕ → Meter
