@@ -12,7 +12,7 @@ use Rattle.ratio.specs.Powers.{powerLimit}
 use Rattle.ratio.proofs.Powers.{power-laws}
 use Rattle.average.specs.declared.Window.{Window}
 use Rattle.average.specs.declared.Average.{Average}
-use Rattle.average.specs.Windows.{codedMinutes, windowSeconds, noAverage, joinedBy, meanOf, larger, closedBy, afterSecond, openedOf, recodedBy, averageOk, AverageWithin, AverageLimits, WindowLengths}
+use Rattle.average.specs.Windows.{codedMinutes, windowSeconds, noAverage, joinedBy, meanOf, larger, closedBy, withWindow, afterSecond, openedOf, recodedBy, averageOk, AverageWithin, AverageLimits, WindowLengths, LimitsBite}
 use Rattle.average.specs.Fits.{Joins}
 
 -- ---- the seconds of a window
@@ -55,28 +55,32 @@ module _ (t code : ℕ) (a : Average) where
       record {
         seconds = ltb-true _ _ (d .0);
         sum = leb-true _ _ (d .1);
-        average = leb-true _ _ (e .1);
+        last = leb-true _ _ (e .1);
         peak = leb-true _ _ (f .1);
       }
 
   pub average-within : AverageWithin t code a → averageOk t code a ≡ true
   unfolding averageOk
-  average-within w = rw (lt-ltb _ _ (w .seconds), le-leb _ _ (w .sum), le-leb _ _ (w .average), le-leb _ _ (w .peak)) refl
+  average-within w = rw (lt-ltb _ _ (w .seconds), le-leb _ _ (w .sum), le-leb _ _ (w .last), le-leb _ _ (w .peak)) refl
 
   pub average-limits : AverageLimits t code a
   average-limits = record { when = (average-parts, average-within) }
+
+pub limits-bite : LimitsBite
+unfolding averageOk codedMinutes powerLimit
+limits-bite = record { most = refl; seconds = refl; sum = refl; last = refl; peak = refl }
 
 -- ---- what keeps them
 
 pub blank-average : (t code : ℕ) → averageOk t code noAverage ≡ true
 blank-average t code =
-    average-within t code noAverage (record { seconds = omega (arith, coded-fits code); sum = zero-le; average = omega arith; peak = zero-le })
+    average-within t code noAverage (record { seconds = omega (arith, coded-fits code); sum = zero-le; last = omega arith; peak = zero-le })
 
 -- a new window is within the limits of any code
 pub opened-within : (t code other : ℕ) (a : Average) → averageOk t code a ≡ true → averageOk t other (openedOf a) ≡ true
 opened-within t code other a h =
     let w = average-parts t code a h in
-    average-within t other (openedOf a) (record { seconds = omega (arith, coded-fits other); sum = zero-le; average = w .average; peak = w .peak })
+    average-within t other (openedOf a) (record { seconds = omega (arith, coded-fits other); sum = zero-le; last = w .last; peak = w .peak })
 
 picked-within : (t before after : ℕ) (a : Average) (same : Bool) → eqb before after ≡ same → averageOk t before a ≡ true → averageOk t after (cond same a (openedOf a)) ≡ true
 picked-within t before after a true e h = rw (eqb-true before after e) at h
@@ -114,10 +118,10 @@ module _ (t code : ℕ) (a : Average) (p : Signed) (h : averageOk t code a ≡ t
   next-sum : next .sum ≤ next .seconds * powerLimit t
   next-sum = rw add-mul (omega (arith, average-parts t code a h .sum, above-le p most))
 
-  stepped-within : (more : Bool) → ltb (next .seconds) (windowSeconds code) ≡ more → averageOk t code (cond more (record { window = next; last = a .last; peak = a .peak }) (closedBy a next)) ≡ true
+  stepped-within : (more : Bool) → ltb (next .seconds) (windowSeconds code) ≡ more → averageOk t code (cond more (withWindow a next) (closedBy a next)) ≡ true
   stepped-within true e =
       let w = average-parts t code a h in
-      average-within t code _ (record { seconds = ltb-true _ _ e; sum = next-sum; average = w .average; peak = w .peak })
+      average-within t code _ (record { seconds = ltb-true _ _ e; sum = next-sum; last = w .last; peak = w .peak })
   stepped-within false e =
       let w = average-parts t code a h in
       let mean = mean-most (powerLimit t) (next .sum) (next .seconds) (omega arith) next-sum in
@@ -125,7 +129,7 @@ module _ (t code : ℕ) (a : Average) (p : Signed) (h : averageOk t code a ≡ t
       (record {
         seconds = omega (arith, coded-fits code);
         sum = zero-le;
-        average = larger-least (a .peak) (meanOf next);
+        last = larger-least (a .peak) (meanOf next);
         peak = larger-most (a .peak) (meanOf next) (powerLimit t) (w .peak) mean;
       })
 

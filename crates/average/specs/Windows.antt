@@ -2,7 +2,7 @@
 use mathlib.Core.Path.{_≡_}
 use mathlib.Core.Logic.{_↔_}
 use Prim.Native.Nat.{ℕ, _+_, _*_, _/_, _≤_, _<_}
-use mathlib.Core.Bool.{Bool, true, _&&_, cond}
+use mathlib.Core.Bool.{Bool, true, false, _&&_, cond}
 use mathlib.Core.List.{[], _∷_, map}
 use lib.Dec.{leb, ltb, eqb}
 use lib.ListN.{getD}
@@ -40,15 +40,19 @@ meanOf w = w .sum / w .seconds
 abbrev pub larger : ℕ → ℕ → ℕ
 larger a b = cond (ltb a b) b a
 
--- a full window sets the average, is the peak if its average is larger, and the next is opened
+-- a full window sets the average, raises the peak if that is larger, and the next is opened
 abbrev pub closedBy : Average → Window → Average
 closedBy a full = record { window = noWindow; last = meanOf full; peak = larger (a .peak) (meanOf full) }
+
+-- the figures with another window
+abbrev pub withWindow : Average → Window → Average
+withWindow a w = record { window = w; last = a .last; peak = a .peak }
 
 -- the figures after a second: it joins the open window, and closes it where it fills it
 unfoldable pub afterSecond : ℕ → Average → Signed → Average
 afterSecond code a p =
     cond (ltb (joinedBy (a .window) p .seconds) (windowSeconds code))
-    (record { window = joinedBy (a .window) p; last = a .last; peak = a .peak })
+    (withWindow a (joinedBy (a .window) p))
     (closedBy a (joinedBy (a .window) p))
 
 -- minutes are whole ones of the open window
@@ -57,7 +61,7 @@ minutesOf a = a .window .seconds / 60
 
 -- a new window is opened, keeping average and peak
 abbrev pub openedOf : Average → Average
-openedOf a = record { window = noWindow; last = a .last; peak = a .peak }
+openedOf a = withWindow a noWindow
 
 -- a code is stored: one that is changed also opens a new window
 abbrev pub recodedBy : ℕ → ℕ → Average → Average
@@ -80,9 +84,22 @@ averageOk t code a =
 pub record AverageWithin (t code : ℕ) (a : Average) : Type 0 where
   pub seconds : a .window .seconds < windowSeconds code
   pub sum : a .window .sum ≤ a .window .seconds * powerLimit t
-  pub average : a .last ≤ a .peak
+  pub last : a .last ≤ a .peak
   pub peak : a .peak ≤ powerLimit t
 
 -- STATEMENT: the figures are within limits exactly when none of request 1's four rows of refusal 1 is true of them
 pub record AverageLimits (t code : ℕ) (a : Average) : Type 0 where
   pub when : (averageOk t code a ≡ true) ↔ AverageWithin t code a
+
+-- open seconds, open sum, average and peak
+abbrev figures : ℕ → ℕ → ℕ → ℕ → Average
+figures seconds sum last peak = record { window = record { seconds = seconds; sum = sum }; last = last; peak = peak }
+
+-- STATEMENT: what the limits reject, by one too much each: without transformers (a power limit of 4,294,967,295) and at code 0 (300
+-- seconds) figures at all their limits are within them, and no others of these are
+pub record LimitsBite : Type 0 where
+  pub most : averageOk 10 0 (figures 299 (299 * 4294967295) 4294967295 4294967295) ≡ true
+  pub seconds : averageOk 10 0 (figures 300 0 0 0) ≡ false
+  pub sum : averageOk 10 0 (figures 299 (299 * 4294967295 + 1) 0 0) ≡ false
+  pub last : averageOk 10 0 (figures 0 0 1 0) ≡ false
+  pub peak : averageOk 10 0 (figures 0 0 0 4294967296) ≡ false

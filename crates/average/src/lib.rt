@@ -111,11 +111,9 @@ impl Average {
         if before == after {
             return self;
         }
-        Average {
-            window: Window::blank(),
-            last: self.last,
-            peak: self.peak,
-        }
+        let mut next = self;
+        next.window = Window::blank();
+        next
     }
 
     // The whole minutes of the open window.

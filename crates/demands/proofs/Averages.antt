@@ -14,7 +14,7 @@ use Rattle.signed.specs.Signs.{aboveOf}
 use Rattle.ratio.specs.declared.Ratios.{Ratios}
 use Rattle.ratio.specs.Ratios.{tOf}
 use Rattle.average.specs.declared.Average.{Average}
-use Rattle.average.specs.Windows.{windowSeconds, noAverage, joinedBy, larger, closedBy, afterSecond, openedOf, recodedBy}
+use Rattle.average.specs.Windows.{windowSeconds, noAverage, joinedBy, larger, closedBy, withWindow, afterSecond, openedOf, recodedBy}
 use Rattle.directory.specs.Quantity.{quantity, power, plain, average, peak, minutes}
 use Rattle.directory.specs.Views.{View, passes}
 use Rattle.reading.specs.declared.Quantity.the-variants as read
@@ -62,9 +62,9 @@ larger-is a b = by (ltb a b) refl
 
 -- ---- a second
 
-module _ (code : ℕ) (q : Signed) (a : Average) (l : Layout) (fewer : a .window .seconds < windowSeconds code) (f : Figured a l) where
+module _ (code : ℕ) (watts : Signed) (a : Average) (l : Layout) (fewer : a .window .seconds < windowSeconds code) (f : Figured a l) where
   abbrev p : ℕ
-  p = aboveOf q
+  p = aboveOf watts
 
   -- its window's sum and seconds, with it
   joined-sum : a .window .sum + p ≡ total (p ∷ l .begun)
@@ -77,7 +77,7 @@ module _ (code : ℕ) (q : Signed) (a : Average) (l : Layout) (fewer : a .window
   mean : (a .window .sum + p) / (a .window .seconds + 1) ≡ total (p ∷ l .begun) / length (p ∷ l .begun)
   mean = λ i. joined-sum i / joined-seconds i
 
-  picked : (more : Bool) → ltb (a .window .seconds + 1) (windowSeconds code) ≡ more → Figured (cond more (record { window = joinedBy (a .window) q; last = a .last; peak = a .peak }) (closedBy a (joinedBy (a .window) q))) (laidIn (windowSeconds code) p l)
+  picked : (more : Bool) → ltb (a .window .seconds + 1) (windowSeconds code) ≡ more → Figured (cond more (withWindow a (joinedBy (a .window) watts)) (closedBy a (joinedBy (a .window) watts))) (laidIn (windowSeconds code) p l)
   unfolding total largest
   picked true e =
       let short : eqb (length (p ∷ l .begun)) (windowSeconds code) ≡ false = ne-eqb (length (p ∷ l .begun)) (windowSeconds code) (λ same. omega (arith, joined-seconds, same, ltb-true (a .window .seconds + 1) (windowSeconds code) e)) in
@@ -86,7 +86,7 @@ module _ (code : ℕ) (q : Signed) (a : Average) (l : Layout) (fewer : a .window
       let whole : eqb (length (p ∷ l .begun)) (windowSeconds code) ≡ true = eq-eqb (length (p ∷ l .begun)) (windowSeconds code) (omega (arith, joined-seconds, fewer, ltb-false (a .window .seconds + 1) (windowSeconds code) e)) in
       rw whole (record { seconds = refl; sum = refl; last = mean; peak = (λ i. larger (f .peak i) (mean i)) ∙ larger-is (peakIn l) (averageOf (p ∷ l .begun)) })
 
-  second-figured : Figured (afterSecond code a q) (laidIn (windowSeconds code) p l)
+  second-figured : Figured (afterSecond code a watts) (laidIn (windowSeconds code) p l)
   unfolding afterSecond
   second-figured = picked (ltb (a .window .seconds + 1) (windowSeconds code)) refl
 

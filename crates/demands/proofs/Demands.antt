@@ -13,8 +13,9 @@ use Rattle.modbus.proofs.Judged.{read-when}
 use Rattle.reading.proofs.Told.{one-answer-each}
 use Rattle.collector.proofs.When as collector
 use Rattle.collector.proofs.Joins.{joins-when}
-use Rattle.average.proofs.Limits.{window-lengths, average-limits}
+use Rattle.average.proofs.Limits.{window-lengths, average-limits, limits-bite}
 use Rattle.meter.proofs.Parts.{zero-to-neither}
+use Rattle.meter.proofs.Sums.{sums-carried}
 use Rattle.meter.proofs.Accepts.{new-answers, sample-answers, setup-idle, code-counts}
 use Rattle.store.proofs.Verdicts.{write-when}
 use Rattle.registers.proofs.Widths.{every-case, setup-unseen}
@@ -71,9 +72,11 @@ replies = record {
   reads = read-when;
   writes = write-when;
   shown = every-case;
+  sums = sums-carried;
   zero = zero-to-neither;
   window-lengths = window-lengths;
   averages = average-limits;
+  average-limits = limits-bite;
   setup-idle = setup-idle;
   setup-always = setup-idle-always;
   code-counts = code-counts;

@@ -107,16 +107,16 @@ young address r made = record {
 -- ---- a steady load
 
 module _ (t x : ℕ) (most : x ≤ powerLimit t) where
-  abbrev load : Sample
-  load = sampleOf (record { l1 = pos x; l2 = pos 0; l3 = pos 0 })
+  abbrev second : Sample
+  second = sampleOf (record { l1 = pos x; l2 = pos 0; l3 = pos 0 })
 
-  load-ok : sampleOk t load ≡ true
+  load-ok : sampleOk t second ≡ true
   unfolding sampleOk
   load-ok =
       let whole : x + 0 + 0 ≤ powerLimit t = omega (arith, most) in
       simp (le-leb x (powerLimit t) most, le-leb 0 (powerLimit t) zero-le, le-leb (x + 0 + 0) (powerLimit t) whole)
 
-  load-p : aboveOf (inForce (load .p)) ≡ x
+  load-p : aboveOf (inForce (second .p)) ≡ x
   unfolding inForce
   load-p = omega arith
 
@@ -139,9 +139,9 @@ module _ (t x : ℕ) (most : x ≤ powerLimit t) where
   is-full = refl
 
   module _ (v : View) where
-    joins : (k : ℕ) (m : Meter) → k < 300 → Young t k m → laidBy v m (Event.sample load) (begunBy k) ≡ laidIn 300 x (begunBy k)
+    laid-so : (k : ℕ) (m : Meter) → k < 300 → Young t k m → laidBy v m (Event.sample second) (begunBy k) ≡ laidIn 300 x (begunBy k)
     unfolding codedMinutes
-    joins k m few y = rw (taken t load load-ok k m few y, y .code, load-p) refl
+    laid-so k m few y = rw (taken t second load-ok k m few y, y .code, load-p) refl
 
     -- fewer than 300 leave it open
     goes-on : (n k : ℕ) (m : Meter) → k + n < 300 → Young t k m → laidAll v m (steady n x) (begunBy k) ≡ begunBy (k + n)
@@ -151,9 +151,9 @@ module _ (t x : ℕ) (most : x ≤ powerLimit t) where
         ap begunBy same
     goes-on (suc n) k m few y =
         let same : suc k + n ≡ k + suc n = omega arith in
-        let next = afterEvent v m (Event.sample load) in
-        ap (laidAll v next (steady n x)) (joins k m (omega (arith, few)) y ∙ not-full k (omega (arith, few)))
-        ∙ goes-on n (suc k) next (omega (arith, few)) (older t load load-ok k m y)
+        let next = afterEvent v m (Event.sample second) in
+        ap (laidAll v next (steady n x)) (laid-so k m (omega (arith, few)) y ∙ not-full k (omega (arith, few)))
+        ∙ goes-on n (suc k) next (omega (arith, few)) (older t second load-ok k m y)
         ∙ ap begunBy same
 
     -- the 300th fills it
@@ -161,11 +161,11 @@ module _ (t x : ℕ) (most : x ≤ powerLimit t) where
     unfolding laidAll
     closes zero k m whole y =
         let same : k ≡ 299 = omega (arith, whole) in
-        joins k m (omega (arith, whole)) y ∙ ap (λ (n : ℕ). laidIn 300 x (begunBy n)) same ∙ is-full
+        laid-so k m (omega (arith, whole)) y ∙ ap (λ (n : ℕ). laidIn 300 x (begunBy n)) same ∙ is-full
     closes (suc n) k m whole y =
-        let next = afterEvent v m (Event.sample load) in
-        ap (laidAll v next (steady (suc n) x)) (joins k m (omega (arith, whole)) y ∙ not-full k (omega (arith, whole)))
-        ∙ closes n (suc k) next (omega (arith, whole)) (older t load load-ok k m y)
+        let next = afterEvent v m (Event.sample second) in
+        ap (laidAll v next (steady (suc n) x)) (laid-so k m (omega (arith, whole)) y ∙ not-full k (omega (arith, whole)))
+        ∙ closes n (suc k) next (omega (arith, whole)) (older t second load-ok k m y)
 
 -- ---- what is read then
 

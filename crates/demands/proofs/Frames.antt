@@ -20,6 +20,7 @@ use Rattle.modbus.specs.Frame.{silence, isRead, isWrite, writeValues}
 use Rattle.modbus.specs.Replies.{errorReply}
 use Rattle.modbus.proofs.Judged.{read-when}
 use Rattle.modbus.proofs.Stores.{sets-taken}
+use Rattle.average.specs.declared.Average.{Average}
 use Rattle.average.specs.Windows.{openedOf, recodedBy}
 use Rattle.meter.specs.declared.groups.Setup.{Setup}
 use Rattle.meter.specs.declared.Meter.{Meter}
@@ -29,7 +30,7 @@ use Rattle.board.specs.declared.Reply.{Reply}
 use Rattle.board.specs.declared.Reply.the-variants.{Silent, Sent, Refused}
 use Rattle.store.specs.Writes.{toStandard, storedOf, verdictTold}
 use Rattle.board.specs.Board.{Outcome, replyTold, boardIn}
-use Rattle.demands.specs.Frames.{Heeds, Answers, SendsError, ReadErrs, WriteErrs, Quiet, Stores, Altered, FrameGives, FramesWhen, Obeys, Untouched, WindowOpened, RepliesSealed, BufferUnseen}
+use Rattle.demands.specs.Frames.{Heeds, Answers, SendsError, ReadErrs, WriteErrs, Quiet, Stores, Altered, Opened, FrameGives, FramesWhen, Obeys, Untouched, WindowOpened, RepliesSealed, BufferUnseen}
 use Rattle.board.proofs.Lengths.{board-short}
 use Rattle.board.proofs.Cases.{board-1, board-2, board-silent}
 use Rattle.store.proofs.Verdicts.{write-when, write-within}
@@ -71,6 +72,14 @@ apart n e = absurd (n (ap (λ (r : Reply). caseIn (replyTold r)) e))
 -- a record after a frame: as it was, or with a legal write stored
 abbrev pub Kept : Meter → List ℕ → List ℕ → Meter → Type 0
 Kept m frame b n = (n ≡ m) ⊎ (Heeds m frame b × Stores m frame × (n ≡ storedOf m frame))
+
+opened-so : (before after : Average) → after ≡ openedOf before → Opened before after
+opened-so before after e = record {
+  seconds = ap (λ (a : Average). a .window .seconds) e;
+  sum = ap (λ (a : Average). a .window .sum) e;
+  last = ap (λ (a : Average). a .last) e;
+  peak = ap (λ (a : Average). a .peak) e;
+}
 
 five : (frame : List ℕ) (code : ErrorCode) → length (errorReply frame code) ≡ 5
 five frame code = refl
@@ -297,7 +306,7 @@ module _ (v : View) (good : T (passes v)) where
     pub window-opened : WindowOpened v m frame b
     window-opened =
         let o = opens _ (untouched .altered) in
-        record { opened = o .0; kept = o .1; only = o .2 }
+        record { opened = λ changed. opened-so (m .average) _ (o .0 changed); kept = o .1; only = o .2 }
 
     pub replies-sealed : RepliesSealed v m frame b
     replies-sealed =

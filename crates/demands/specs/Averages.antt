@@ -116,7 +116,8 @@ module _ (v : View) where
           (p : Poll v address (quantity plain minutes)) → collected v r meterNow p ≡ Reading (read.Plain (minutesIn layoutOf))
       pub begun-fewer : length (layoutOf .begun) < windowSeconds (codeOf (meterNow .setup))
 
-  -- STATEMENT: windows do fill. On a new meter a steady load is nothing to average and peak for 299 seconds, and with the 300th it is both
+  -- STATEMENT: windows do fill. On a new meter 299 seconds of a steady load are a window that is begun, and none is full; with the 300th
+  -- it is full, and what is read as average and as peak is the load
   pub record WindowFills (address : ℕ) (r : Ratios) (load : ℕ) : Type 0 where
     pub before : layoutOf address r (steady 299 load) ≡ record { full = []; begun = replicate 299 load }
     pub filled : layoutOf address r (steady 300 load) ≡ record { full = replicate 300 load ∷ []; begun = [] }

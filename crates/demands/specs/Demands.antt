@@ -25,12 +25,13 @@ use Rattle.modbus.specs.Read.{ReadWhen}
 use Rattle.reading.specs.Told.{OneAnswerEach}
 use Rattle.collector.specs.When.{RepliesWhen, NotMisread, JoinsWhen}
 use Rattle.average.specs.declared.Average.{Average}
-use Rattle.average.specs.Windows.{WindowLengths, AverageLimits}
+use Rattle.average.specs.Windows.{WindowLengths, AverageLimits, LimitsBite}
 use Rattle.meter.specs.declared.samples.Sample.{Sample}
 use Rattle.meter.specs.declared.groups.Setup.{Setup}
 use Rattle.meter.specs.declared.Meter.{Meter}
 use Rattle.meter.specs.Energies.{ZeroToNeither}
 use Rattle.meter.specs.Meters.{meterOk}
+use Rattle.meter.specs.Carried.{SumsCarried}
 use Rattle.meter.specs.Accepts.{NewAnswers, SampleAnswers, SetupIdle, CodeCounts}
 use Rattle.store.specs.Writes.{WriteWhen}
 use Rattle.transcript.specs.Transcript.{TextWritten}
@@ -103,9 +104,11 @@ pub record Replies : Type 0 where
   pub reads : (v : View) (frame : List ℕ) → ReadWhen v frame
   pub writes : (m : Meter) (frame : List ℕ) → WriteWhen m frame
   pub shown : (m : Meter) → Typed m → meterOk m ≡ true → EveryCase m
+  pub sums : (s : Sample) → SumsCarried s
   pub zero : ZeroToNeither
   pub window-lengths : WindowLengths
   pub averages : (t code : ℕ) (a : Average) → AverageLimits t code a
+  pub average-limits : LimitsBite
   pub setup-idle : (m : Meter) (s : Sample) (setup : Setup) (a : Average) → SetupIdle m s setup a
   pub setup-always : EveryView SetupIdleAlways
   pub code-counts : CodeCounts

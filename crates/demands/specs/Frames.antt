@@ -1,4 +1,5 @@
--- Paper 01, "What the meter does with a frame": when each answer is given, and what stays as it was.
+-- Paper 01, "What the meter does with a frame": when each answer is given, and what stays as it was. Paper 02, request 1: when a frame
+-- opens a new window.
 use mathlib.Core.Path.{_≡_}
 use mathlib.Core.Logic.{_↔_, _⊎_}
 use Prim.Native.Nat.{ℕ, _≤_, _<_}
@@ -16,7 +17,8 @@ use Rattle.directory.specs.Views.{View}
 use Rattle.modbus.specs.Frame.{addressOf, silence, isRead, isWrite}
 use Rattle.modbus.specs.Read.{readIn}
 use Rattle.modbus.specs.Replies.{errorBytes, echoReply}
-use Rattle.average.specs.Windows.{openedOf, recodedBy}
+use Rattle.average.specs.declared.Average.{Average}
+use Rattle.average.specs.Windows.{recodedBy}
 use Rattle.meter.specs.declared.Meter.{Meter}
 use Rattle.meter.specs.Groups.{codeOf}
 use Rattle.meter.specs.Meters.{meterOk}
@@ -63,6 +65,13 @@ pub record Altered (m : Meter) (frame b : List ℕ) (n : Meter) : Type 0 where
   pub given : n .given ≡ m .given
   pub counters : n .counters ≡ m .counters
   pub latest : n .latest ≡ m .latest
+
+-- a new window is opened, and average and peak are kept
+pub record Opened (before after : Average) : Type 0 where
+  pub seconds : after .window .seconds ≡ 0
+  pub sum : after .window .sum ≡ 0
+  pub last : after .last ≡ before .last
+  pub peak : after .peak ≡ before .peak
 
 -- ---- a frame and a reply buffer, handed to a meter; reads go by a view, the directory and the most words
 
@@ -119,7 +128,7 @@ module _ (v : View) (m : Meter) (frame b : List ℕ) where
   -- STATEMENT: whatever the frame, a new window is opened exactly when the code at 0x200a is another after it, average and peak being
   -- kept, and else no figure is altered; that is done by a legal write to 0x2000 alone
   pub record WindowOpened : Type 0 where
-    pub opened : Recoded → done .handled .meter .average ≡ openedOf (m .average)
+    pub opened : Recoded → Opened (m .average) (done .handled .meter .average)
     pub kept : codeOf (done .handled .meter .setup) ≡ codeOf (m .setup) → done .handled .meter .average ≡ m .average
     pub only : Recoded → Heeds m frame b × Stores m frame × (toStandard frame ≡ true)
 

@@ -124,7 +124,7 @@ module _ (m : Meter) (h : meterOk m ≡ true) where
   figures = average-parts (meterT m) (codeOf (m .setup)) (m .average) (meter-parts m h .average)
 
   pub last-most : m .average .last ≤ powerLimit (meterT m)
-  last-most = le-trans (figures .average) (figures .peak)
+  last-most = le-trans (figures .last) (figures .peak)
 
   pub minutes-most : minutesOf (m .average) ≤ 59
   minutes-most = omega (arith, figures .seconds, coded-fits (codeOf (m .setup)))

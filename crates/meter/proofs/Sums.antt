@@ -3,15 +3,18 @@ use mathlib.Core.Path.{_≡_, refl, ap, _∙_}
 use mathlib.Core.Bool.{Bool, true, false, cond}
 use Prim.Native.Nat.{ℕ, zero, suc, _+_}
 use native.Mathlib.Omega.{arith}
+use lib.IntN.{ℤ, pos, negsuc, _+ℤ_}
+use Rattle.signed.specs.Signs.{signedOf, aboveOf, belowOf}
 use Rattle.ratio.specs.declared.Ratios.{Ratios}
 use Rattle.meter.specs.declared.energies.Energy.{Energy}
+use Rattle.meter.specs.declared.samples.Powers.{Powers}
 use Rattle.meter.specs.declared.samples.Sample.{Sample}
 use Rattle.meter.specs.declared.Meter.{Meter}
-use Rattle.meter.specs.Samples.{sampleOk}
+use Rattle.meter.specs.Samples.{inForce, sampleOk}
 use Rattle.meter.specs.Energies.{plusOf, valueOf}
 use Rattle.meter.specs.Meters.{meterT, meterOk, blankOf, newOf, energyAt}
 use Rattle.meter.specs.After.{nextOf, meterWithinTop, afterOf}
-use Rattle.meter.specs.Carried.{carriesFor, isAccepted, addedBy}
+use Rattle.meter.specs.Carried.{carriesFor, isAccepted, addedBy, SumsCarried}
 use Rattle.meter.proofs.Cases.{chosen}
 use Rattle.meter.proofs.Accepts.{new-blank}
 
@@ -49,3 +52,16 @@ blank-zero (suc (suc (suc (suc e)))) a r = refl
 -- and is 0 in a new meter
 pub new-zero : (e a : ℕ) (r : Ratios) → valueOf (energyAt e (newOf a r .meter)) ≡ 0
 new-zero e a r = ap (λ (m : Meter). valueOf (energyAt e m)) (new-blank a r) ∙ blank-zero e a r
+
+-- in whole numbers
+module _ (p : Powers) (x : ℕ) where
+  above-sum : (p .l1 +ℤ p .l2) +ℤ p .l3 ≡ pos x → (aboveOf (inForce p) ≡ x) × (belowOf (inForce p) ≡ 0)
+  unfolding inForce
+  above-sum e = (ap (λ (z : ℤ). aboveOf (signedOf z)) e, ap (λ (z : ℤ). belowOf (signedOf z)) e)
+
+  below-sum : (p .l1 +ℤ p .l2) +ℤ p .l3 ≡ negsuc x → (aboveOf (inForce p) ≡ 0) × (belowOf (inForce p) ≡ suc x)
+  unfolding inForce
+  below-sum e = (ap (λ (z : ℤ). aboveOf (signedOf z)) e, ap (λ (z : ℤ). belowOf (signedOf z)) e)
+
+pub sums-carried : (s : Sample) → SumsCarried s
+sums-carried s = record { p-above = above-sum (s .p); p-below = below-sum (s .p); q-above = above-sum (s .q); q-below = below-sum (s .q) }

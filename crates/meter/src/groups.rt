@@ -1,5 +1,5 @@
-// The setup groups (paper 01, "The meter's record"). A meter keeps them and sends them back; of its measurements only request 1's
-// averages depend on them, by the code of the window.
+// The setup groups (paper 01, "The meter's record"). A meter keeps them and sends them back; of its measurements only the
+// figures of request 1 depend on them, by the code of the window.
 ghost use mathlib.Core.Path.{_≡_};
 ghost use Rattle.meter.specs.Groups.{setupOk, noSetup, codeOf};
 

@@ -1,5 +1,5 @@
--- Paper 01, "The directory" (L, W, B; no setup word alters a measurement): every quantity has its case, and what is shown has room
--- where it is sent.
+-- Paper 01, "The directory" (L, W, B; no setup word alters a measurement, which of what a record shows still holds): every quantity has
+-- its case, and what is shown has room where it is sent.
 use mathlib.Core.Path.{_≡_}
 use Prim.Native.Nat.{ℕ, _/_, _%_, _^_, _≤_, _<_}
 use mathlib.Core.List.{List, []}

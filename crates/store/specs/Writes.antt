@@ -1,4 +1,4 @@
--- Paper 01, "What the meter does with a frame", step 5: how a write is judged, and what it stores.
+-- Paper 01, "What the meter does with a frame", step 5: how a write is judged, and what it stores (with paper 02, request 1: a new window).
 use mathlib.Core.Path.{_≡_}
 use Prim.Native.Nat.{ℕ}
 use mathlib.Core.Logic.{_↔_, _⊎_}
