@@ -1,4 +1,5 @@
--- Paper 02, request 1: what is asked of a window and a power so that sums fit 64 bits. No public call of a board or a collector asks any of it.
+-- Paper 02, request 1: what is asked of a window and a power so that sums fit 64 bits. No public call of a board or a collector asks any
+-- of it.
 use Prim.Native.Nat.{_*_, _≤_}
 use Rattle.signed.specs.declared.Signed.{Signed}
 use Rattle.ratio.specs.Powers.{topPower}

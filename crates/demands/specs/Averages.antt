@@ -1,5 +1,5 @@
--- Paper 02, request 1, over histories: the accepted samples laid out in windows, with no look at the figures that the record keeps, and what
--- a collector reads of them, through the bytes of the replies.
+-- Paper 02, request 1, over histories: the accepted samples laid out in windows, with no look at the figures that the record keeps,
+-- and what a collector reads of them, through the bytes of the replies.
 use mathlib.Core.Path.{_≡_}
 use Prim.Native.Nat.{ℕ, _+_, _/_, _≤_, _<_}
 use mathlib.Core.Bool.{cond}
@@ -131,4 +131,6 @@ module _ (v : View) where
   -- STATEMENT: so it is of every accepted new meter, whatever came to it, and of every load within the power limit
   pub record AveragesAlways : Type 0 where
     pub reads : (address : ℕ) (r : Ratios) (xs : List Event) → newOf address r .answer ≡ Accepted → AveragesRead address r xs
-    pub fills : (address : ℕ) (r : Ratios) (load : ℕ) → newOf address r .answer ≡ Accepted → load ≤ powerLimit (tOf r) → WindowFills address r load
+    pub fills :
+        (address : ℕ) (r : Ratios) (load : ℕ) → newOf address r .answer ≡ Accepted → load ≤ powerLimit (tOf r) →
+        WindowFills address r load
