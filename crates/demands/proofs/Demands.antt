@@ -4,6 +4,7 @@ use Rattle.crc.proofs.Laws.{crc-fits, intact-is-sealed, put-seals}
 use Rattle.words.proofs.Laws.{byte-sent, read-back}
 use Rattle.words.proofs.Signs.{signed-back}
 use Rattle.lines.proofs.Texts.{text-back}
+use Rattle.ratio.proofs.Steps.{step-rows}
 use Rattle.counts.proofs.Joins.{join-split}
 use Rattle.directory.proofs.Rules.{directory-rules}
 use Rattle.own.proofs.Rules.{own-passes, three-tables, average-places, kinds-in-order}
@@ -53,6 +54,7 @@ ground = record {
   bytes = byte-sent;
   words = read-back;
   signed = signed-back;
+  steps = step-rows;
   directory = directory-rules;
   own = own-passes;
   tests = tests-bite;

@@ -10,6 +10,7 @@ use Rattle.words.specs.Words.{ByteSent, ReadBack}
 use Rattle.words.specs.Signed.{SignedBack}
 use Rattle.lines.specs.Lines.{TextBack}
 use Rattle.ratio.specs.declared.Ratios.{Ratios}
+use Rattle.ratio.specs.Steps.{StepRows}
 use Rattle.counts.specs.declared.Count.{Count}
 use Rattle.counts.specs.Counting.{JoinSplit}
 use Rattle.directory.specs.declared.Item.{Item}
@@ -73,7 +74,7 @@ pub record Demand1 : Type 0 where
   pub replies : EveryReply NotMisread
   pub records : EveryView AfterEvents
 
--- STATEMENT: what board and collector share: the numbers of answers, CRC, words, directory, lines
+-- STATEMENT: what board and collector share: the numbers of answers, CRC, words, steps, directory, lines
 pub record Ground : Type 0 where
   pub reasons : OneReasonEach
   pub answers : OneAnswerEach
@@ -84,6 +85,7 @@ pub record Ground : Type 0 where
   pub bytes : ByteSent
   pub words : ReadBack
   pub signed : SignedBack
+  pub steps : StepRows
   pub directory : (dir : List Item) → T (tested dir) → DirectoryRules dir
   pub own : OwnPasses
   pub tests : TestsBite
