@@ -82,7 +82,9 @@ pub fn energy_step(t: u32) -> u32
         1_000
     } else if t < 100_000 {
         10_000
-    } else {
+    } else if t < 1_000_000 {
         100_000
+    } else {
+        1_000_000
     }
 }

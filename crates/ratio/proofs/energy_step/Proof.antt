@@ -18,7 +18,10 @@ returns-4 : tie.Need-returns-4
 returns-4 c = sym (step-rows .row-10000 (c .before .before .before .before .args .t) (omega arith) (omega arith))
 
 returns-5 : tie.Need-returns-5
-returns-5 c = sym (step-rows .row-100000 (c .before .before .before .before .args .t) (omega arith))
+returns-5 c = sym (step-rows .row-100000 (c .before .before .before .before .before .args .t) (omega arith) (omega arith))
+
+returns-6 : tie.Need-returns-6
+returns-6 c = sym (step-rows .row-1000000 (c .before .before .before .before .before .args .t) (omega arith))
 
 pub energy-step-spec : {M : Type 1} → statement M
-energy-step-spec = tie.close (tie.spec returns returns-2 returns-3 returns-4 returns-5)
+energy-step-spec = tie.close (tie.spec returns returns-2 returns-3 returns-4 returns-5 returns-6)
