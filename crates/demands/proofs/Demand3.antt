@@ -72,17 +72,17 @@ module _ (v : View) (good : T (passes v)) where
     t = tOf (h .ratios)
 
     -- the whole Wh of the exact energy
-    abbrev whole : WattHours
+    abbrev pub whole : WattHours
     whole = record { 0 = exactAt v e h / 360000 }
 
     -- ---- either moment
 
-    record Moment (m : Meter) : Type 0 where
+    pub record Moment (m : Meter) : Type 0 where
       pub within : meterOk m ≡ true
       pub given : m .given ≡ givenOf (h .address) (h .ratios)
       pub value : valueOf (energyAt e m) ≡ exactAt v e h
 
-    then : Moment (sooner v h)
+    pub then : Moment (sooner v h)
     then =
         let blank = new-blank (h .address) (h .ratios) in
         record {
@@ -113,14 +113,18 @@ module _ (v : View) (good : T (passes v)) where
       polled : {q : ℕ} (p : Poll v (h .address) q) → Shows m q → collected v (h .ratios) m p ≡ Reading (meaningOf m q)
       polled p shows = poll-reads v good m (now .within) (now .given) p shows
 
-      counts : (p : Poll v (h .address) (quantity energyCount e)) → collected v (h .ratios) m p ≡ Reading (read.Energy (registerOf t whole) (stepOf t) (energyOf t (registerOf t whole .0)))
+      pub counts : (p : Poll v (h .address) (quantity energyCount e)) → collected v (h .ratios) m p ≡ Reading (read.Energy (registerOf t whole) (stepOf t) (energyOf t (registerOf t whole .0)))
       counts p =
           polled p (count-shows m (now .within) e four)
           ∙ ap Reading (count-means m e four)
           ∙ (λ i. Reading (read.Energy (registerOf (same-t i) (same i)) (stepOf (same-t i)) (energyOf (same-t i) (registerOf (same-t i) (same i) .0))))
 
-      wraps : (p : Poll v (h .address) (quantity wrap e)) → collected v (h .ratios) m p ≡ Reading (read.Wrap (wrapOf t whole))
+      pub wraps : (p : Poll v (h .address) (quantity wrap e)) → collected v (h .ratios) m p ≡ Reading (read.Wrap (wrapOf t whole))
       wraps p = polled p (wrap-shows m (now .within) e four) ∙ ap Reading (wrap-means m e four) ∙ (λ i. Reading (read.Wrap (wrapOf (same-t i) (same i))))
+
+      -- no meter keeps more than the top
+      pub most : whole .0 ≤ topWh
+      most = rw (sym (ap (λ (x : WattHours). x .0) same)) (energy-most m e (now .within))
 
       lows : (p : Poll v (h .address) (quantity low e)) → collected v (h .ratios) m p ≡ Reading (read.Low (lowOf whole))
       lows p = polled p (low-shows m (now .within) e four) ∙ ap Reading (low-means m e four) ∙ (λ i. Reading (read.Low (lowOf (same i))))
@@ -130,7 +134,7 @@ module _ (v : View) (good : T (passes v)) where
 
     -- ---- joined
 
-    ratios-ok : ratiosOk (h .ratios) ≡ true
+    pub ratios-ok : ratiosOk (h .ratios) ≡ true
     ratios-ok = ap (λ (g : Given). ratiosOk (g .ratios)) (sym (then .given)) ∙ own-ratios (sooner v h) (then .within)
 
     register-read : (m n : Meter) → Moment m → Moment n → (r : Poll v (h .address) (quantity energyCount e)) (w : Poll v (h .address) (quantity wrap e)) → RegisterRead v h e (collected v (h .ratios) m r) (collected v (h .ratios) n w)
@@ -145,17 +149,15 @@ module _ (v : View) (good : T (passes v)) where
     }
 
     halves-read : (m n : Meter) → Moment m → Moment n → (l : Poll v (h .address) (quantity low e)) (u : Poll v (h .address) (quantity high e)) → HalvesRead v h e (collected v (h .ratios) m l) (collected v (h .ratios) n u)
-    halves-read m n now thereafter l u =
-        let most : exactAt v e h / 360000 ≤ topWh = rw (sym (ap (λ (x : WattHours). x .0) (same m now))) (energy-most m e (now .within)) in
-        record {
-          lows = lowOf whole;
-          highs = highOf whole;
-          whole = whole;
-          reads = lows m now l;
-          heads = highs n thereafter u;
-          joins = join-split .halves whole most;
-          bounds = record { above = omega arith; below = omega arith };
-        }
+    halves-read m n now thereafter l u = record {
+      lows = lowOf whole;
+      highs = highOf whole;
+      whole = whole;
+      reads = lows m now l;
+      heads = highs n thereafter u;
+      joins = join-split .halves whole (most m now);
+      bounds = record { above = omega arith; below = omega arith };
+    }
 
   pub demand-3 : Demand3 v
   demand-3 h e four = record {
