@@ -8,6 +8,7 @@ pub mod Histories
 pub mod Types
 pub mod NotEmpty
 pub mod Demand3
+pub mod LastRows
 pub mod Averages
 pub mod Fills
 pub mod Determined

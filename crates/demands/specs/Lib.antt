@@ -4,6 +4,7 @@ pub mod RoundTrip
 pub mod Polled
 pub mod Histories
 pub mod Demand3
+pub mod LastRows
 pub mod Averages
 pub mod NotEmpty
 pub mod Determined

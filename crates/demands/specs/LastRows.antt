@@ -1,0 +1,43 @@
+-- Paper 02, request 2, over histories and through the bytes: the steps in which registers count at the last rows of the table. All is
+-- said of the exact energy, in numbers: the table itself is not looked at.
+use mathlib.Core.Path.{_≡_}
+use Prim.Native.Nat.{ℕ, _*_, _/_, _%_, _≤_, _<_}
+use Rattle.counts.specs.declared.Joined.the-variants as joined
+use Rattle.ratio.specs.Ratios.{tOf}
+use Rattle.counts.specs.Counting.{joinOf}
+use Rattle.directory.specs.Quantity.{quantity, energyCount, wrap}
+use Rattle.directory.specs.Views.{View}
+use Rattle.reading.specs.declared.Quantity.the-variants as read
+use Rattle.reading.specs.declared.Answer.the-variants.{Reading}
+use Rattle.demands.specs.Demand3.{History, sooner, exactAt, Poll, collected}
+
+-- ---- over a view: the directory and the most words that reads go by
+
+module _ (v : View) where
+  -- the whole steps of so many Wh in the exact energy of the samples accepted so far
+  abbrev pub stepsAt : ℕ → ℕ → History v → ℕ
+  stepsAt step e h = exactAt v e h / (360000 * step)
+
+  -- an energy is counted in such steps: wherever its register stands, it is read as the steps since it last went back to 0, and the wrap as
+  -- how often it did; and the two join to all of these steps
+  pub record CountedIn (step : ℕ) (h : History v) (e : ℕ) : Type 0 where
+    pub register-read :
+        (p : Poll v (h .address) (quantity energyCount e)) →
+        collected v (h .ratios) (sooner v h) p
+        ≡ Reading (read.Energy (record { 0 = stepsAt step e h % 100000000 }) step (record { 0 = stepsAt step e h % 100000000 * step }))
+    pub wrap-read :
+        (p : Poll v (h .address) (quantity wrap e)) →
+        collected v (h .ratios) (sooner v h) p ≡ Reading (read.Wrap (stepsAt step e h / 100000000))
+    pub joins :
+        joinOf (h .ratios) (record { 0 = stepsAt step e h % 100000000 }) (stepsAt step e h / 100000000)
+        ≡ joined.Energy (record { 0 = stepsAt step e h * step })
+
+  -- STATEMENT: from T = 1,000,000 up every energy is counted in steps of 1,000,000 Wh, and its wrap is always read as 0; from 100,000
+  -- to 999,999 in steps of 100,000 Wh
+  pub record LastRows : Type 0 where
+    pub megawatt-hours : (h : History v) (e : ℕ) → e < 4 → 1000000 ≤ tOf (h .ratios) → CountedIn 1000000 h e
+    pub no-turn :
+        (h : History v) (e : ℕ) → e < 4 → 1000000 ≤ tOf (h .ratios) → (p : Poll v (h .address) (quantity wrap e)) →
+        collected v (h .ratios) (sooner v h) p ≡ Reading (read.Wrap 0)
+    pub hundred-kilowatt-hours :
+        (h : History v) (e : ℕ) → e < 4 → 100000 ≤ tOf (h .ratios) → tOf (h .ratios) < 1000000 → CountedIn 100000 h e
