@@ -1,5 +1,6 @@
 // One energy on its way from samples to the load on a feed: how a board and a collector call us. A new meter takes six minutes of
-// samples; then its +Ea is polled in each of its three places, read, joined, and held against the plain sum of the samples.
+// samples; then its +Ea is polled in each of its three places, read, joined, and held against the plain sum of the samples. Four
+// meters of large transformers follow, where the table of steps ends.
 mod tell;
 
 ghost use mathlib.Core.Path.{_≡_};
@@ -37,6 +38,11 @@ const A_SECOND: u64 = (L1 + L2 + L3) as u64;
 const SECONDS: u64 = 360;
 
 fn main() {
+    from_samples();
+    large_transformers();
+}
+
+fn from_samples() {
     let ratios = Ratios { kta: 40, ktv: 10 };
     let new = Meter::new(1, ratios);
     let answer = new.answer;
@@ -80,6 +86,24 @@ fn six_minutes(new: Meter) -> Sampled
         accepted += 1;
     }
     Sampled { meter, accepted }
+}
+
+// The last T with a step of 100 kWh, the first with one of 1 MWh, a ratio of 120,000, and the largest T with the largest energy.
+fn large_transformers() {
+    years(2_079, 481, 12_345_678_901_234);
+    years(1_000, 1_000, 12_345_678_901_234);
+    years(1_200, 1_000, 12_345_678_901_234);
+    years(9_999, 9_999, Meter::WH_TOP);
+}
+
+// A meter whose +Ea stands where years of samples would have brought it.
+fn years(kta: u16, ktv: u16, wh: u64) {
+    let ratios = Ratios { kta, ktv };
+    let new = Meter::new(1, ratios);
+    let mut meter = new.meter;
+    meter.counters.active.positive.wh.0 = wh;
+    tell::years(ratios, wh);
+    three_places(meter, ratios, wh);
 }
 
 // Each place, compared with the exact energy in whole Wh.

@@ -14,6 +14,20 @@ pub fn meter(ratios: Ratios) {
     );
 }
 
+pub fn years(ratios: Ratios, wh: u64) {
+    let t = ratios.tenths();
+    say::sentence(
+        b"a meter of KTA #, KTV # tenths, so T is #: a register counts steps of # Wh; its +Ea is # Wh\n",
+        &[
+            ratios.kta as u64,
+            ratios.ktv as u64,
+            t as u64,
+            ratio::energy_step(t) as u64,
+            wh,
+        ],
+    );
+}
+
 // The energy comes in hundredths of a watt-second.
 pub fn exact(accepted: u64, energy: u64) {
     say::sentence(
