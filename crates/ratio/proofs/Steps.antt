@@ -1,7 +1,6 @@
 -- Row by row of the table: which step stands there, and that it is not below 10 Wh nor above 1,000,000. What callers know of a step
 -- are these laws and no more.
-use mathlib.Core.Path.{_≡_}
-use Prim.Native.Nat.{ℕ, _≤_, _<_}
+use Prim.Native.Nat.{ℕ, _≤_}
 use mathlib.Core.Bool.{Bool, true, false, cond}
 use native.Mathlib.Omega.{arith}
 use borrow.Author.Tests.{lt-ltb, le-ltb}
