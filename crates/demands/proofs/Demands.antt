@@ -29,7 +29,7 @@ use Rattle.demands.proofs.Histories.{after-events, setup-idle-always}
 use Rattle.demands.proofs.Types.{types-kept}
 use Rattle.demands.proofs.NotEmpty.{not-empty, reads-always}
 use Rattle.demands.proofs.Demand3.{demand-3}
-use Rattle.demands.proofs.LastRows.{last-rows}
+use Rattle.demands.proofs.LastRows.{last-rows, last-ratios}
 use Rattle.demands.proofs.Fills.{averages-always}
 use Rattle.demands.proofs.Determined.{determined, numbered}
 use Rattle.demands.proofs.Starred.{examples-hold}
@@ -98,6 +98,7 @@ readings = record {
   always = reads-always;
   averages = averages-always;
   last-rows = last-rows;
+  last-ratios = last-ratios;
 }
 
 pub demand-2 : Demand2

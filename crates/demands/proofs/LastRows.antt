@@ -14,7 +14,7 @@ use Rattle.directory.specs.Views.{View, passes}
 use Rattle.reading.specs.declared.Quantity.the-variants as read
 use Rattle.reading.specs.declared.Answer.the-variants.{Reading}
 use Rattle.demands.specs.Demand3.{History, sooner, exactAt}
-use Rattle.demands.specs.LastRows.{stepsAt, CountedIn, LastRows}
+use Rattle.demands.specs.LastRows.{stepsAt, CountedIn, LastRows, LastRatios}
 use Rattle.demands.proofs.Demand3.{whole, then, counts, wraps, most, ratios-ok}
 
 module _ (v : View) (good : T (passes v)) where
@@ -55,4 +55,12 @@ module _ (v : View) (good : T (passes v)) where
         ∙ ap (λ (n : ℕ). Reading (read.Wrap n)) (no-turn h e four);
     hundred-kilowatt-hours =
         λ h e four from top. counted-in h e four 100000 (step-rows .row-100000 (tOf (h .ratios)) (omega (arith, from)) (omega (arith, top)));
+  }
+
+  pub last-ratios : LastRatios v
+  last-ratios = record {
+    t-999-999 = λ h e four same. last-rows .hundred-kilowatt-hours h e four (omega (arith, ap tOf same)) (omega (arith, ap tOf same));
+    t-1-000-000 = λ h e four same. last-rows .megawatt-hours h e four (omega (arith, ap tOf same));
+    t-1-200-000 = λ h e four same. last-rows .megawatt-hours h e four (omega (arith, ap tOf same));
+    t-99-980-001 = λ h e four same. last-rows .megawatt-hours h e four (omega (arith, ap tOf same));
   }

@@ -42,7 +42,7 @@ use Rattle.demands.specs.RoundTrip.{Meets, WithData, RoundTrip}
 use Rattle.demands.specs.Histories.{TypesKept, AfterEvents, SetupIdleAlways}
 use Rattle.demands.specs.Polled.{EveryItemPolled}
 use Rattle.demands.specs.Demand3.{Demand3}
-use Rattle.demands.specs.LastRows.{LastRows}
+use Rattle.demands.specs.LastRows.{LastRows, LastRatios}
 use Rattle.demands.specs.Averages.{AveragesAlways}
 use Rattle.demands.specs.NotEmpty.{NotEmpty, ReadsAlways}
 use Rattle.demands.specs.Determined.{Determined, Numbered}
@@ -129,6 +129,7 @@ pub record Readings : Type 0 where
   pub always : EveryView ReadsAlways
   pub averages : EveryView AveragesAlways
   pub last-rows : EveryView LastRows
+  pub last-ratios : EveryView LastRatios
 
 -- STATEMENT: demand 2, with what both halves rest on; each call's outcome is determined, the paper's examples come out, and `bench`
 -- writes the text that the paper asks for

@@ -41,3 +41,14 @@ module _ (v : View) where
         collected v (h .ratios) (sooner v h) p ≡ Reading (read.Wrap 0)
     pub hundred-kilowatt-hours :
         (h : History v) (e : ℕ) → e < 4 → 100000 ≤ tOf (h .ratios) → tOf (h .ratios) < 1000000 → CountedIn 100000 h e
+
+  -- every energy of every meter with such ratios is counted in steps of so many Wh
+  abbrev pub CountsBy : ℕ → ℕ → ℕ → Type 0
+  CountsBy kta ktv step = (h : History v) (e : ℕ) → e < 4 → h .ratios ≡ record { kta = kta; ktv = ktv } → CountedIn step h e
+
+  -- STATEMENT: the rows by the ratios themselves: the last before 1,000,000, the first from there up, a ratio of 120,000, and the largest
+  pub record LastRatios : Type 0 where
+    pub t-999-999 : CountsBy 2079 481 100000
+    pub t-1-000-000 : CountsBy 1000 1000 1000000
+    pub t-1-200-000 : CountsBy 1200 1000 1000000
+    pub t-99-980-001 : CountsBy 9999 9999 1000000
