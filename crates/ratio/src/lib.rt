@@ -70,7 +70,7 @@ pub fn power_limit(t: u32) -> u64
     }
 }
 
-// The Wh that one count of an energy register stands for.
+// The Wh that one count of an energy register stands for: paper 01's table, its last row as request 2 mends it.
 pub fn energy_step(t: u32) -> u32
     ensures { λ r. ⌜ r ≡ stepOf t ⌝ }
 {
