@@ -15,6 +15,7 @@ use Rattle.ratio.specs.Ratios.{tOf}
 use Rattle.ratio.specs.Powers.{topPower, powerLimit}
 use Rattle.ratio.proofs.Powers.{power-laws}
 use Rattle.ratio.specs.Steps.{stepOf}
+use Rattle.ratio.proofs.Steps.{step-rows}
 use Rattle.counts.specs.Counting.{topWh, topCount, registerOf, wrapOf, energyOf}
 use Rattle.setup.specs.Ranges.{wordOk, groupOk}
 use Rattle.directory.specs.Quantity.{quantity, energyCount, wrap, posEa}
@@ -41,8 +42,7 @@ use Rattle.demands.proofs.Demand3.{demand-3}
 
 -- the step of such a meter
 ten : stepOf (tOf bareRatios) ≡ 10
-unfolding stepOf
-ten = refl
+ten = step-rows .row-10 (tOf bareRatios) (omega arith)
 
 -- no figure keeps the bounds both before and after a whole step
 same-figure : {a b s x y : ℕ} → Bounds a s x → Bounds b s y → b ≡ a + 3600000 → s ≡ 10 → x ≡ y → ⊥
