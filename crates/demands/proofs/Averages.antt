@@ -11,7 +11,6 @@ use lib.ListN.{length}
 use borrow.Author.Tests.{eq-eqb, ne-eqb, le-leb, lt-leb, ltb-true, ltb-false}
 use Rattle.signed.specs.declared.Signed.{Signed}
 use Rattle.signed.specs.Signs.{aboveOf}
-use Rattle.ratio.specs.declared.Ratios.{Ratios}
 use Rattle.ratio.specs.Ratios.{tOf}
 use Rattle.average.specs.declared.Average.{Average}
 use Rattle.average.specs.Windows.{windowSeconds, noAverage, joinedBy, larger, closedBy, withWindow, afterSecond, openedOf, recodedBy}
@@ -25,7 +24,7 @@ use Rattle.meter.specs.declared.Answer.the-variants.{Accepted}
 use Rattle.meter.specs.declared.Meter.{Meter}
 use Rattle.meter.specs.Samples.{inForce, sampleOk}
 use Rattle.meter.specs.Groups.{codeOf}
-use Rattle.meter.specs.Meters.{givenOf, meterT, meterOk, newOf}
+use Rattle.meter.specs.Meters.{meterT, meterOk, newOf}
 use Rattle.meter.specs.After.{nextOf, meterWithinTop, afterOf}
 use Rattle.meter.specs.Carried.{isAccepted}
 use Rattle.meter.proofs.Parts.{figures}
@@ -139,27 +138,27 @@ module _ (v : View) (good : T (passes v)) where
 
   -- ---- what is read
 
-  module _ (address : ℕ) (r : Ratios) (xs : List Event) (made : newOf address r .answer ≡ Accepted) where
+  module _ (g : Given) (xs : List Event) (made : newOf g .answer ≡ Accepted) where
     abbrev first : Meter
-    first = newOf address r .meter
+    first = newOf g .meter
 
     abbrev m : Meter
     m = afterAll v first xs
 
     abbrev laid : Layout
-    laid = layoutOf v address r xs
+    laid = layoutOf v g xs
 
     figured : Figured (m .average) laid
-    figured = all-figured first xs noLayout (subst (λ (x : Meter). Figured (x .average) noLayout) (sym (new-blank address r)) none-figured)
+    figured = all-figured first xs noLayout (subst (λ (x : Meter). Figured (x .average) noLayout) (sym (new-blank g)) none-figured)
 
     within : meterOk m ≡ true
-    within = after-events v good .within first xs (made-within address r made)
+    within = after-events v good .within first xs (made-within g made)
 
-    given : m .given ≡ givenOf address r
-    given = after-events v good .given first xs ∙ ap (λ (x : Meter). x .given) (new-blank address r)
+    given : m .given ≡ g
+    given = after-events v good .given first xs ∙ ap (λ (x : Meter). x .given) (new-blank g)
 
-    same-t : meterT m ≡ tOf r
-    same-t = ap (λ (g : Given). tOf (g .ratios)) given
+    same-t : meterT m ≡ tOf (g .ratios)
+    same-t = ap (λ (x : Given). tOf (x .ratios)) given
 
     average-means : meaningOf m (quantity power average) ≡ read.Power (roundedPower (meterT m) (m .average .last))
     unfolding meaningOf powerMeanings
@@ -173,7 +172,7 @@ module _ (v : View) (good : T (passes v)) where
     unfolding meaningOf plainValues
     minutes-means = refl
 
-    pub averages-read : AveragesRead v address r xs
+    pub averages-read : AveragesRead v g xs
     averages-read = record {
       average-read = λ p. poll-reads v good m within given p (average-shows m within) ∙ ap Reading average-means ∙ (λ i. Reading (read.Power (roundedPower (same-t i) (figured .last i))));
       peak-read = λ p. poll-reads v good m within given p (peak-shows m within) ∙ ap Reading peak-means ∙ (λ i. Reading (read.Power (roundedPower (same-t i) (figured .peak i))));

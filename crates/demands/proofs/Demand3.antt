@@ -21,7 +21,7 @@ use Rattle.meter.specs.declared.energies.Energy.{Energy}
 use Rattle.meter.specs.declared.given.Given.{Given}
 use Rattle.meter.specs.declared.Meter.{Meter}
 use Rattle.meter.specs.Energies.{noEnergy, valueOf}
-use Rattle.meter.specs.Meters.{givenOf, meterT, meterOk, newOf, energiesOf, energyAt}
+use Rattle.meter.specs.Meters.{meterT, meterOk, newOf, energiesOf, energyAt}
 use Rattle.meter.proofs.Parts.{energy-rest, own-ratios}
 use Rattle.meter.proofs.Sums.{new-zero}
 use Rattle.meter.proofs.Accepts.{made-within, new-blank}
@@ -66,10 +66,10 @@ module _ (m : Meter) (e : ℕ) (four : e < 4) where
 module _ (v : View) (good : T (passes v)) where
   module _ (h : History v) (e : ℕ) (four : e < 4) where
     abbrev first : Meter
-    first = newOf (h .address) (h .ratios) .meter
+    first = newOf (h .given) .meter
 
     abbrev t : ℕ
-    t = tOf (h .ratios)
+    t = tOf (h .given .ratios)
 
     -- the whole Wh of the exact energy
     abbrev pub whole : WattHours
@@ -79,16 +79,16 @@ module _ (v : View) (good : T (passes v)) where
 
     pub record Moment (m : Meter) : Type 0 where
       pub within : meterOk m ≡ true
-      pub given : m .given ≡ givenOf (h .address) (h .ratios)
+      pub given : m .given ≡ h .given
       pub value : valueOf (energyAt e m) ≡ exactAt v e h
 
     pub then : Moment (sooner v h)
     then =
-        let blank = new-blank (h .address) (h .ratios) in
+        let blank = new-blank (h .given) in
         record {
-          within = after-events v good .within first (h .events) (made-within (h .address) (h .ratios) (h .made));
+          within = after-events v good .within first (h .events) (made-within (h .given) (h .made));
           given = after-events v good .given first (h .events) ∙ ap (λ (m : Meter). m .given) blank;
-          value = omega (arith, after-events v good .grows e first (h .events), new-zero e (h .address) (h .ratios));
+          value = omega (arith, after-events v good .grows e first (h .events), new-zero e (h .given));
         }
 
     last : Moment (later v h)
@@ -110,45 +110,45 @@ module _ (v : View) (good : T (passes v)) where
       same-t : meterT m ≡ t
       same-t = ap (λ (g : Given). tOf (g .ratios)) (now .given)
 
-      polled : {q : ℕ} (p : Poll v (h .address) q) → Shows m q → collected v (h .ratios) m p ≡ Reading (meaningOf m q)
+      polled : {q : ℕ} (p : Poll v (h .given) q) → Shows m q → collected v (h .given .ratios) m p ≡ Reading (meaningOf m q)
       polled p shows = poll-reads v good m (now .within) (now .given) p shows
 
-      pub counts : (p : Poll v (h .address) (quantity energyCount e)) → collected v (h .ratios) m p ≡ Reading (read.Energy (registerOf t whole) (stepOf t) (energyOf t (registerOf t whole .0)))
+      pub counts : (p : Poll v (h .given) (quantity energyCount e)) → collected v (h .given .ratios) m p ≡ Reading (read.Energy (registerOf t whole) (stepOf t) (energyOf t (registerOf t whole .0)))
       counts p =
           polled p (count-shows m (now .within) e four)
           ∙ ap Reading (count-means m e four)
           ∙ (λ i. Reading (read.Energy (registerOf (same-t i) (same i)) (stepOf (same-t i)) (energyOf (same-t i) (registerOf (same-t i) (same i) .0))))
 
-      pub wraps : (p : Poll v (h .address) (quantity wrap e)) → collected v (h .ratios) m p ≡ Reading (read.Wrap (wrapOf t whole))
+      pub wraps : (p : Poll v (h .given) (quantity wrap e)) → collected v (h .given .ratios) m p ≡ Reading (read.Wrap (wrapOf t whole))
       wraps p = polled p (wrap-shows m (now .within) e four) ∙ ap Reading (wrap-means m e four) ∙ (λ i. Reading (read.Wrap (wrapOf (same-t i) (same i))))
 
       -- no meter keeps more than the top
       pub most : whole .0 ≤ topWh
       most = rw (sym (ap (λ (x : WattHours). x .0) same)) (energy-most m e (now .within))
 
-      lows : (p : Poll v (h .address) (quantity low e)) → collected v (h .ratios) m p ≡ Reading (read.Low (lowOf whole))
+      lows : (p : Poll v (h .given) (quantity low e)) → collected v (h .given .ratios) m p ≡ Reading (read.Low (lowOf whole))
       lows p = polled p (low-shows m (now .within) e four) ∙ ap Reading (low-means m e four) ∙ (λ i. Reading (read.Low (lowOf (same i))))
 
-      highs : (p : Poll v (h .address) (quantity high e)) → collected v (h .ratios) m p ≡ Reading (read.High (highOf whole))
+      highs : (p : Poll v (h .given) (quantity high e)) → collected v (h .given .ratios) m p ≡ Reading (read.High (highOf whole))
       highs p = polled p (high-shows m (now .within) e four) ∙ ap Reading (high-means m e four) ∙ (λ i. Reading (read.High (highOf (same i))))
 
     -- ---- joined
 
-    pub ratios-ok : ratiosOk (h .ratios) ≡ true
+    pub ratios-ok : ratiosOk (h .given .ratios) ≡ true
     ratios-ok = ap (λ (g : Given). ratiosOk (g .ratios)) (sym (then .given)) ∙ own-ratios (sooner v h) (then .within)
 
-    register-read : (m n : Meter) → Moment m → Moment n → (r : Poll v (h .address) (quantity energyCount e)) (w : Poll v (h .address) (quantity wrap e)) → RegisterRead v h e (collected v (h .ratios) m r) (collected v (h .ratios) n w)
+    register-read : (m n : Meter) → Moment m → Moment n → (r : Poll v (h .given) (quantity energyCount e)) (w : Poll v (h .given) (quantity wrap e)) → RegisterRead v h e (collected v (h .given .ratios) m r) (collected v (h .given .ratios) n w)
     register-read m n now thereafter r w = record {
       count = registerOf t whole;
       turns = wrapOf t whole;
       whole = roundedOf t whole;
       reads = counts m now r;
       wraps = wraps n thereafter w;
-      joins = join-split .counts (h .ratios) whole ratios-ok;
+      joins = join-split .counts (h .given .ratios) whole ratios-ok;
       bounds = record { above = omega (arith, join-split .above t whole); below = omega (arith, join-split .below t whole) };
     }
 
-    halves-read : (m n : Meter) → Moment m → Moment n → (l : Poll v (h .address) (quantity low e)) (u : Poll v (h .address) (quantity high e)) → HalvesRead v h e (collected v (h .ratios) m l) (collected v (h .ratios) n u)
+    halves-read : (m n : Meter) → Moment m → Moment n → (l : Poll v (h .given) (quantity low e)) (u : Poll v (h .given) (quantity high e)) → HalvesRead v h e (collected v (h .given .ratios) m l) (collected v (h .given .ratios) n u)
     halves-read m n now thereafter l u = record {
       lows = lowOf whole;
       highs = highOf whole;

@@ -11,7 +11,6 @@ use lib.ListN.{length, replicate, length-replicate}
 use borrow.Author.Tests.{le-leb, lt-leb, ne-eqb}
 use Rattle.signed.specs.Signs.{aboveOf}
 use Rattle.signed.proofs.Sums.{above-le, below-le}
-use Rattle.ratio.specs.declared.Ratios.{Ratios}
 use Rattle.ratio.specs.Ratios.{tOf}
 use Rattle.ratio.specs.Powers.{topPower, powerLimit}
 use Rattle.ratio.proofs.Powers.{power-laws}
@@ -23,6 +22,7 @@ use Rattle.reading.specs.declared.Answer.the-variants.{Reading}
 use Rattle.meter.specs.declared.samples.Sample.{Sample}
 use Rattle.meter.specs.declared.energies.Energy.{Energy}
 use Rattle.meter.specs.declared.Answer.the-variants.{Accepted}
+use Rattle.meter.specs.declared.given.Given.{Given}
 use Rattle.meter.specs.declared.Meter.{Meter}
 use Rattle.meter.specs.Samples.{inForce, sampleOk, sampleOf}
 use Rattle.meter.specs.Energies.{plusOf, valueOf}
@@ -96,12 +96,12 @@ module _ (t : ℕ) (s : Sample) (ok : sampleOk t s ≡ true) where
     small = λ e. omega (arith, after-adds e m s, added-most e m, y .small e);
   }
 
-young : (address : ℕ) (r : Ratios) → newOf address r .answer ≡ Accepted → Young (tOf r) 0 (newOf address r .meter)
-young address r made = record {
-  within = made-within address r made;
-  ratio = ap (λ (m : Meter). meterT m) (new-blank address r);
-  code = ap (λ (m : Meter). codeOf (m .setup)) (new-blank address r);
-  small = λ e. omega (arith, new-zero e address r);
+young : (g : Given) → newOf g .answer ≡ Accepted → Young (tOf (g .ratios)) 0 (newOf g .meter)
+young g made = record {
+  within = made-within g made;
+  ratio = ap (λ (m : Meter). meterT m) (new-blank g);
+  code = ap (λ (m : Meter). codeOf (m .setup)) (new-blank g);
+  small = λ e. omega (arith, new-zero e g);
 }
 
 -- ---- a steady load
@@ -186,16 +186,16 @@ alone zero = refl
 alone (suc x) = rw (lt-leb (suc x) 0 (omega arith)) refl
 
 module _ (v : View) (good : T (passes v)) where
-  pub window-fills : (address : ℕ) (r : Ratios) (x : ℕ) → newOf address r .answer ≡ Accepted → x ≤ powerLimit (tOf r) → WindowFills v address r x
-  window-fills address r x made most =
-      let first = young address r made in
-      let filled = closes (tOf r) x most v 299 0 _ refl first in
-      let now = averages-read v good address r (steady 300 x) made in
+  pub window-fills : (g : Given) (x : ℕ) → newOf g .answer ≡ Accepted → x ≤ powerLimit (tOf (g .ratios)) → WindowFills v g x
+  window-fills g x made most =
+      let first = young g made in
+      let filled = closes (tOf (g .ratios)) x most v 299 0 _ refl first in
+      let now = averages-read v good g (steady 300 x) made in
       record {
-        before = goes-on (tOf r) x most v 299 0 _ (omega arith) first;
+        before = goes-on (tOf (g .ratios)) x most v 299 0 _ (omega arith) first;
         filled = filled;
-        average-read = λ p. now .average-read p ∙ (λ i. Reading (read.Power (roundedPower (tOf r) (lastIn (filled i))))) ∙ ap (λ (a : ℕ). Reading (read.Power (roundedPower (tOf r) a))) (same-average x);
-        peak-read = λ p. now .peak-read p ∙ (λ i. Reading (read.Power (roundedPower (tOf r) (peakIn (filled i))))) ∙ ap (λ (a : ℕ). Reading (read.Power (roundedPower (tOf r) a))) (ap (λ (a : ℕ). largest (a ∷ [])) (same-average x) ∙ alone x);
+        average-read = λ p. now .average-read p ∙ (λ i. Reading (read.Power (roundedPower (tOf (g .ratios)) (lastIn (filled i))))) ∙ ap (λ (a : ℕ). Reading (read.Power (roundedPower (tOf (g .ratios)) a))) (same-average x);
+        peak-read = λ p. now .peak-read p ∙ (λ i. Reading (read.Power (roundedPower (tOf (g .ratios)) (peakIn (filled i))))) ∙ ap (λ (a : ℕ). Reading (read.Power (roundedPower (tOf (g .ratios)) a))) (ap (λ (a : ℕ). largest (a ∷ [])) (same-average x) ∙ alone x);
       }
 
   pub averages-always : AveragesAlways v

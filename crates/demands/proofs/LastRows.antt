@@ -20,7 +20,7 @@ use Rattle.demands.proofs.Demand3.{whole, then, counts, wraps, most, ra
 module _ (v : View) (good : T (passes v)) where
   module _ (h : History v) (e : ℕ) (four : e < 4) where
     abbrev t : ℕ
-    t = tOf (h .ratios)
+    t = tOf (h .given .ratios)
 
     -- whatever the row: the energy is counted in the step that stands there
     counted-in : (step : ℕ) → stepOf t ≡ step → CountedIn v step h e
@@ -35,8 +35,8 @@ module _ (v : View) (good : T (passes v)) where
               λ p. wraps v good h e four (sooner v h) (then v good h e four) p
               ∙ (λ i. Reading (read.Wrap (steps i / 100000000)));
           joins =
-              sym (λ i. joinOf (h .ratios) (record { 0 = steps i % 100000000 }) (steps i / 100000000))
-              ∙ join-split .counts (h .ratios) (whole v good h e four) (ratios-ok v good h e four)
+              sym (λ i. joinOf (h .given .ratios) (record { 0 = steps i % 100000000 }) (steps i / 100000000))
+              ∙ join-split .counts (h .given .ratios) (whole v good h e four) (ratios-ok v good h e four)
               ∙ (λ i. joined.Energy (record { 0 = steps i * row i }));
         }
 
@@ -54,7 +54,7 @@ module _ (v : View) (good : T (passes v)) where
         λ h e four from p. by-megawatt-hours h e four (omega (arith, from)) .wrap-read p
         ∙ ap (λ (n : ℕ). Reading (read.Wrap n)) (no-turn h e four);
     hundred-kilowatt-hours =
-        λ h e four from top. counted-in h e four 100000 (step-rows .row-100000 (tOf (h .ratios)) (omega (arith, from)) (omega (arith, top)));
+        λ h e four from top. counted-in h e four 100000 (step-rows .row-100000 (tOf (h .given .ratios)) (omega (arith, from)) (omega (arith, top)));
   }
 
   pub last-ratios : LastRatios v

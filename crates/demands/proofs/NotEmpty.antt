@@ -6,7 +6,6 @@ use Prim.Native.Nat.{ℕ, _≤_, _<_}
 use native.Mathlib.Omega.{arith}
 use lib.Dec.{T}
 use lib.ListN.{length, getD, replicate}
-use Rattle.ratio.specs.declared.Ratios.{Ratios}
 use Rattle.directory.specs.Item.{none}
 use Rattle.directory.specs.Views.{View, passes}
 use Rattle.reading.specs.declared.Answer.the-variants.{Reading}
@@ -15,7 +14,7 @@ use Rattle.meter.specs.declared.Answer.the-variants.{Accepted}
 use Rattle.meter.specs.declared.given.Given.{Given}
 use Rattle.meter.specs.declared.Meter.{Meter}
 use Rattle.meter.specs.Samples.{noSample}
-use Rattle.meter.specs.Meters.{givenOf, newOf}
+use Rattle.meter.specs.Meters.{newOf}
 use Rattle.meter.proofs.Accepts.{made-within, new-blank}
 use Rattle.demands.specs.Meaning.{meaningOf}
 use Rattle.demands.specs.RoundTrip.{replyTo, Meets}
@@ -37,13 +36,13 @@ module _ (v : View) (good : T (passes v)) where
   idle m buffer (f ∷ fs) = idle (afterEvent v m (Event.frame f buffer)) buffer fs
 
   -- the read of one item
-  poll : (address i : ℕ) → 1 ≤ address → i < length (v .seen) → ItemPoll v address i
-  poll address i some l = (
+  poll : (g : Given) (i : ℕ) → 1 ≤ g .address → i < length (v .seen) → ItemPoll v g i
+  poll g i some l = (
     record {
-      request = requestFor address (getD (v .seen) i none);
+      request = requestFor (g .address) (getD (v .seen) i none);
       buffer = replicate 256 0;
       index = 0;
-      asks = record { hears = every-item-polled v good .hears address i some l; first = i; count = 1; items = every-item-polled v good .items address i l };
+      asks = record { hears = every-item-polled v good .hears (g .address) i some l; first = i; count = 1; items = every-item-polled v good .items (g .address) i l };
       own = refl;
       room = omega arith;
       below = omega arith;
@@ -54,7 +53,7 @@ module _ (v : View) (good : T (passes v)) where
 
   pub not-empty : NotEmpty v
   not-empty = record {
-    history = λ address r events between made still. (record { address = address; ratios = r; made = made; events = events; between = between; idle = still }, refl, refl, refl, refl);
+    history = λ g events between made still. (record { given = g; made = made; events = events; between = between; idle = still }, refl, refl, refl);
     idle = idle;
     poll = poll;
     typed = more {x = Event.sample noSample} blank-sample (more {x = Event.frame (0 ∷ []) []} (λ i. zeros 1 256 i (omega arith)) nothing);
@@ -62,15 +61,15 @@ module _ (v : View) (good : T (passes v)) where
 
   -- ---- the round trip over histories
 
-  polls : (address : ℕ) (r : Ratios) (xs : List Event) → newOf address r .answer ≡ Accepted → AllTyped xs → (q : ℕ) (p : Poll v address q) → collected v r (afterAll v (newOf address r .meter) xs) p ≡ Reading (meaningOf (afterAll v (newOf address r .meter) xs) q)
-  polls address r xs made typed q p =
-      let first = newOf address r .meter in
+  polls : (g : Given) (xs : List Event) → newOf g .answer ≡ Accepted → AllTyped xs → (q : ℕ) (p : Poll v g q) → collected v (g .ratios) (afterAll v (newOf g .meter) xs) p ≡ Reading (meaningOf (afterAll v (newOf g .meter) xs) q)
+  polls g xs made typed q p =
+      let first = newOf g .meter in
       let m = afterAll v first xs in
-      let same : m .given ≡ givenOf address r = after-events v good .given first xs ∙ ap (λ (x : Meter). x .given) (new-blank address r) in
-      let own = ap (λ (g : Given). g .address) same in
-      let meets : Meets m (p .request) (p .buffer) = record { within = after-events v good .within first xs (made-within address r made); room = p .room; own = own ∙ sym (p .own) } in
-      ap (λ (g : Given). collectorIn v (p .request) (replyTo v m (p .request) (p .buffer)) (g .ratios) (p .index)) (sym same)
-      ∙ round-trip v good m (p .request) (p .buffer) meets .reads (p .index) (types-kept v good .events first xs (types-kept v good .new address r) typed) (p .asks) (p .below)
+      let same : m .given ≡ g = after-events v good .given first xs ∙ ap (λ (x : Meter). x .given) (new-blank g) in
+      let own = ap (λ (x : Given). x .address) same in
+      let meets : Meets m (p .request) (p .buffer) = record { within = after-events v good .within first xs (made-within g made); room = p .room; own = own ∙ sym (p .own) } in
+      ap (λ (x : Given). collectorIn v (p .request) (replyTo v m (p .request) (p .buffer)) (x .ratios) (p .index)) (sym same)
+      ∙ round-trip v good m (p .request) (p .buffer) meets .reads (p .index) (types-kept v good .events first xs (types-kept v good .new g) typed) (p .asks) (p .below)
       ∙ ap (λ (x : ℕ). Reading (meaningOf m x)) (p .shows)
 
   pub reads-always : ReadsAlways v

@@ -32,7 +32,7 @@ use Rattle.modbus.proofs.Stores.{sets-taken}
 use Rattle.modbus.proofs.Judged.{legal-read}
 use Rattle.meter.specs.declared.Meter.{Meter}
 use Rattle.meter.specs.declared.given.Given.{Given}
-use Rattle.meter.specs.Meters.{givenOf, meterT, meterOk}
+use Rattle.meter.specs.Meters.{meterT, meterOk}
 use Rattle.meter.proofs.Parts.{own-ratios}
 use Rattle.store.proofs.Verdicts.{write-when}
 use Rattle.registers.specs.Shown.{shownOf}
@@ -265,7 +265,7 @@ module _ (v : View) (good : T (passes v)) where
 
   -- ---- a poll, told the ratios that the meter was given
 
-  pub poll-reads : (m : Meter) {address : ℕ} {r : Ratios} → meterOk m ≡ true → m .given ≡ givenOf address r → {q : ℕ} (p : Poll v address q) → Shows m q → collected v r m p ≡ Reading (meaningOf m q)
+  pub poll-reads : (m : Meter) {g : Given} → meterOk m ≡ true → m .given ≡ g → {q : ℕ} (p : Poll v g q) → Shows m q → collected v (g .ratios) m p ≡ Reading (meaningOf m q)
   poll-reads m within given p fit =
       let meets : Meets m (p .request) (p .buffer) = record { within = within; room = p .room; own = ap (λ (g : Given). g .address) given ∙ sym (p .own) } in
       ap (λ (g : Given). collectorIn v (p .request) (replyTo v m (p .request) (p .buffer)) (g .ratios) (p .index)) (sym given)

@@ -10,7 +10,6 @@ use lib.Dec.{T}
 use borrow.Author.Tests.{le-leb}
 use Rattle.signed.specs.Signs.{aboveOf, belowOf}
 use Rattle.signed.proofs.Sums.{above-le, below-le}
-use Rattle.ratio.specs.declared.Ratios.{Ratios}
 use Rattle.ratio.specs.Ratios.{tOf}
 use Rattle.ratio.specs.Powers.{topPower, powerLimit}
 use Rattle.ratio.proofs.Powers.{power-laws}
@@ -23,12 +22,13 @@ use Rattle.directory.specs.Views.{View, passes}
 use Rattle.reading.specs.declared.Answer.{Answer}
 use Rattle.average.specs.Windows.{codedMinutes, afterSecond, averageOk}
 use Rattle.meter.specs.declared.Answer.the-variants.{Accepted}
+use Rattle.meter.specs.declared.given.Given.{Given}
 use Rattle.meter.specs.declared.samples.Powers.{Powers}
 use Rattle.meter.specs.declared.samples.Sample.{Sample}
 use Rattle.meter.specs.declared.Meter.{Meter}
 use Rattle.meter.specs.Samples.{inForce, powersOk, sampleOk}
 use Rattle.meter.specs.Energies.{noEnergies, withPower, withinTop}
-use Rattle.meter.specs.Meters.{meterT, meterOk, blankOf, newOf}
+use Rattle.meter.specs.Meters.{meterT, meterOk, givenOf, blankOf, newOf}
 use Rattle.meter.specs.After.{nextOf, meterWithinTop, afterOf}
 use Rattle.meter.proofs.Parts.{in-force-most, sample-parts}
 use Rattle.meter.proofs.Accepts.{made-within, new-blank, sample-answers}
@@ -67,27 +67,27 @@ first-within t p h =
     fits : (x : ℕ) → x ≤ topPower → 0 + (0 + x) / 360000 ≤ topWh
     fits x h = omega (arith, h)
 
-takes : (address : ℕ) (r : Ratios) (s : Sample) → newOf address r .answer ≡ Accepted → sampleOk (tOf r) s ≡ true → afterOf (newOf address r .meter) s .answer ≡ Accepted
-takes address r s made h =
-    let blank = new-blank address r in
-    let parts = sample-parts (tOf r) s h in
-    let top : meterWithinTop (nextOf (blankOf address r) s) ≡ true = λ i. first-within (tOf r) (s .p) (parts .p) i && first-within (tOf r) (s .q) (parts .q) i in
-    sample-answers (newOf address r .meter) s .accepted .1
-    (made-within address r made, ap (λ (m : Meter). sampleOk (meterT m) s) blank ∙ h, ap (λ (m : Meter). meterWithinTop (nextOf m s)) blank ∙ top)
+takes : (g : Given) (s : Sample) → newOf g .answer ≡ Accepted → sampleOk (tOf (g .ratios)) s ≡ true → afterOf (newOf g .meter) s .answer ≡ Accepted
+takes g s made h =
+    let blank = new-blank g in
+    let parts = sample-parts (tOf (g .ratios)) s h in
+    let top : meterWithinTop (nextOf (blankOf g) s) ≡ true = λ i. first-within (tOf (g .ratios)) (s .p) (parts .p) i && first-within (tOf (g .ratios)) (s .q) (parts .q) i in
+    sample-answers (newOf g .meter) s .accepted .1
+    (made-within g made, ap (λ (m : Meter). sampleOk (meterT m) s) blank ∙ h, ap (λ (m : Meter). meterWithinTop (nextOf m s)) blank ∙ top)
 
 module _ (v : View) (good : T (passes v)) where
   -- ---- our own
 
   -- the history of a new meter with nothing between
-  module _ (address : ℕ) (r : Ratios) (made : newOf address r .answer ≡ Accepted) (e : ℕ) (four : e < 4) (register : Poll v address (quantity energyCount e)) (wrapped : Poll v address (quantity wrap e)) where
+  module _ (g : Given) (made : newOf g .answer ≡ Accepted) (e : ℕ) (four : e < 4) (register : Poll v g (quantity energyCount e)) (wrapped : Poll v g (quantity wrap e)) where
     abbrev told-by : List Event → History v
-    told-by xs = record { address = address; ratios = r; made = made; events = xs; between = []; idle = not-empty v good .idle (afterAll v (newOf address r .meter) xs) [] [] }
+    told-by xs = record { given = g; made = made; events = xs; between = []; idle = not-empty v good .idle (afterAll v (newOf g .meter) xs) [] [] }
 
     -- what is read and joined is what demand 3 speaks of
-    joined-so : (xs : List Event) (a b : Answer) (x : RegisterRead v (told-by xs) e a b) → joinedWh r a b ≡ x .whole .0
+    joined-so : (xs : List Event) (a b : Answer) (x : RegisterRead v (told-by xs) e a b) → joinedWh (g .ratios) a b ≡ x .whole .0
     joined-so xs a b x = rw (x .reads, x .wraps, x .joins) refl
 
-    kept : Keeps v address r e (ours v address r e register wrapped)
+    kept : Keeps v g e (ours v g e register wrapped)
     unfolding afterAll
     kept xs =
         let x = demand-3 v good (told-by xs) e four .register-first register wrapped in
@@ -96,7 +96,7 @@ module _ (v : View) (good : T (passes v)) where
   -- ---- others, whatever they are
 
   abbrev bare : Meter
-  bare = newOf 1 bareRatios .meter
+  bare = newOf (givenOf 1 bareRatios) .meter
 
   abbrev one : List Event
   one = Event.sample tenWh ∷ []

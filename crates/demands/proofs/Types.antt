@@ -8,11 +8,11 @@ use native.Mathlib.Omega.{arith}
 use lib.Dec.{T, eqb}
 use lib.ListN.{getD, replicate}
 use borrow.Author.Tests.{eqb-true}
-use Rattle.ratio.specs.declared.Ratios.{Ratios}
 use Rattle.directory.specs.Views.{View, passes}
 use Rattle.modbus.specs.Frame.{wordNumber, wordsAt, writeValues}
 use Rattle.modbus.proofs.Rows.{length-words}
 use Rattle.meter.specs.declared.samples.Sample.{Sample}
+use Rattle.meter.specs.declared.given.Given.{Given}
 use Rattle.meter.specs.declared.Meter.{Meter}
 use Rattle.meter.specs.Samples.{sampleOk, noSample}
 use Rattle.meter.specs.Groups.{noSetup}
@@ -44,11 +44,11 @@ blank-setup = record {
   output = record { long = refl; word = λ i. zeros 24 (256 ^ 2) i (omega arith) };
 }
 
-blank-typed : (address : ℕ) (r : Ratios) → Typed (blankOf address r)
-blank-typed address r = record { latest = blank-sample; setup = blank-setup }
+blank-typed : (g : Given) → Typed (blankOf g)
+blank-typed g = record { latest = blank-sample; setup = blank-setup }
 
-new : (address : ℕ) (r : Ratios) → Typed (newOf address r .meter)
-new address r = subst (λ (m : Meter). Typed m) (sym (new-blank address r)) (blank-typed address r)
+new : (g : Given) → Typed (newOf g .meter)
+new g = subst (λ (m : Meter). Typed m) (sym (new-blank g)) (blank-typed g)
 
 -- ---- a sample
 

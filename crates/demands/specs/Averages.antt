@@ -8,7 +8,6 @@ use lib.Dec.{leb, eqb}
 use lib.IntN.{pos}
 use lib.ListN.{length, getD, replicate}
 use Rattle.signed.specs.Signs.{aboveOf}
-use Rattle.ratio.specs.declared.Ratios.{Ratios}
 use Rattle.ratio.specs.Ratios.{tOf}
 use Rattle.ratio.specs.Powers.{powerLimit}
 use Rattle.average.specs.Windows.{windowSeconds}
@@ -17,6 +16,7 @@ use Rattle.directory.specs.Views.{View}
 use Rattle.reading.specs.declared.Quantity.the-variants as read
 use Rattle.reading.specs.declared.Answer.the-variants.{Reading}
 use Rattle.meter.specs.declared.Answer.the-variants.{Accepted}
+use Rattle.meter.specs.declared.given.Given.{Given}
 use Rattle.meter.specs.declared.Meter.{Meter}
 use Rattle.meter.specs.Samples.{inForce, sampleOf}
 use Rattle.meter.specs.Groups.{codeOf}
@@ -91,46 +91,46 @@ module _ (v : View) where
   laidAll m [] l = l
   laidAll m (x ∷ xs) l = laidAll (afterEvent v m x) xs (laidBy m x l)
 
-  -- ---- a new meter of an address, with ratios, and what came to it since
+  -- ---- a new meter, by what it is given, and what came to it since
 
-  module _ (address : ℕ) (r : Ratios) (xs : List Event) where
+  module _ (g : Given) (xs : List Event) where
     -- the meter now
     abbrev pub meterNow : Meter
-    meterNow = afterAll v (newOf address r .meter) xs
+    meterNow = afterAll v (newOf g .meter) xs
 
     -- all events since new, laid out
     abbrev pub layoutOf : Layout
-    layoutOf = laidAll (newOf address r .meter) xs noLayout
+    layoutOf = laidAll (newOf g .meter) xs noLayout
 
     -- STATEMENT: what is read of average and peak, wherever they stand, is the average of the last full window and the largest of all
     -- full windows since new, in the unit of the P register, and what is read of minutes the whole ones of the open window; the
     -- window that is begun is never full
     pub record AveragesRead : Type 0 where
       pub average-read :
-          (p : Poll v address (quantity power average)) →
-          collected v r meterNow p ≡ Reading (read.Power (roundedPower (tOf r) (lastIn layoutOf)))
+          (p : Poll v g (quantity power average)) →
+          collected v (g .ratios) meterNow p ≡ Reading (read.Power (roundedPower (tOf (g .ratios)) (lastIn layoutOf)))
       pub peak-read :
-          (p : Poll v address (quantity power peak)) →
-          collected v r meterNow p ≡ Reading (read.Power (roundedPower (tOf r) (peakIn layoutOf)))
+          (p : Poll v g (quantity power peak)) →
+          collected v (g .ratios) meterNow p ≡ Reading (read.Power (roundedPower (tOf (g .ratios)) (peakIn layoutOf)))
       pub minutes-read :
-          (p : Poll v address (quantity plain minutes)) → collected v r meterNow p ≡ Reading (read.Plain (minutesIn layoutOf))
+          (p : Poll v g (quantity plain minutes)) → collected v (g .ratios) meterNow p ≡ Reading (read.Plain (minutesIn layoutOf))
       pub begun-fewer : length (layoutOf .begun) < windowSeconds (codeOf (meterNow .setup))
 
   -- STATEMENT: windows do fill. On a new meter 299 seconds of a steady load are a window that is begun, and none is full; with the 300th
   -- it is full, and what is read as average and as peak is the load
-  pub record WindowFills (address : ℕ) (r : Ratios) (load : ℕ) : Type 0 where
-    pub before : layoutOf address r (steady 299 load) ≡ record { full = []; begun = replicate 299 load }
-    pub filled : layoutOf address r (steady 300 load) ≡ record { full = replicate 300 load ∷ []; begun = [] }
+  pub record WindowFills (g : Given) (load : ℕ) : Type 0 where
+    pub before : layoutOf g (steady 299 load) ≡ record { full = []; begun = replicate 299 load }
+    pub filled : layoutOf g (steady 300 load) ≡ record { full = replicate 300 load ∷ []; begun = [] }
     pub average-read :
-        (p : Poll v address (quantity power average)) →
-        collected v r (meterNow address r (steady 300 load)) p ≡ Reading (read.Power (roundedPower (tOf r) load))
+        (p : Poll v g (quantity power average)) →
+        collected v (g .ratios) (meterNow g (steady 300 load)) p ≡ Reading (read.Power (roundedPower (tOf (g .ratios)) load))
     pub peak-read :
-        (p : Poll v address (quantity power peak)) →
-        collected v r (meterNow address r (steady 300 load)) p ≡ Reading (read.Power (roundedPower (tOf r) load))
+        (p : Poll v g (quantity power peak)) →
+        collected v (g .ratios) (meterNow g (steady 300 load)) p ≡ Reading (read.Power (roundedPower (tOf (g .ratios)) load))
 
   -- STATEMENT: so it is of every accepted new meter, whatever came to it, and of every load within the power limit
   pub record AveragesAlways : Type 0 where
-    pub reads : (address : ℕ) (r : Ratios) (xs : List Event) → newOf address r .answer ≡ Accepted → AveragesRead address r xs
+    pub reads : (g : Given) (xs : List Event) → newOf g .answer ≡ Accepted → AveragesRead g xs
     pub fills :
-        (address : ℕ) (r : Ratios) (load : ℕ) → newOf address r .answer ≡ Accepted → load ≤ powerLimit (tOf r) →
-        WindowFills address r load
+        (g : Given) (load : ℕ) → newOf g .answer ≡ Accepted → load ≤ powerLimit (tOf (g .ratios)) →
+        WindowFills g load

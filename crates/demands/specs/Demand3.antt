@@ -21,6 +21,7 @@ use Rattle.reading.specs.declared.Answer.the-variants.{Reading}
 use Rattle.collector.specs.Collector.{collectorIn}
 use Rattle.collector.specs.When.{Asks, itemAt}
 use Rattle.meter.specs.declared.Answer.the-variants.{Accepted}
+use Rattle.meter.specs.declared.given.Given.{Given}
 use Rattle.meter.specs.declared.Meter.{Meter}
 use Rattle.meter.specs.Meters.{newOf}
 use Rattle.demands.specs.Histories.{Event, afterAll, exactOf, anyTaken}
@@ -36,16 +37,15 @@ pub record Bounds (exact step wh : ℕ) : Type 0 where
 module _ (v : View) where
   -- a history with two moments: a new meter and any events, then events with no accepted sample between (the first read is one of these)
   pub record History : Type 0 where
-    pub address : ℕ
-    pub ratios : Ratios
-    pub made : newOf address ratios .answer ≡ Accepted
+    pub given : Given
+    pub made : newOf given .answer ≡ Accepted
     pub events : List Event
     pub between : List Event
-    pub idle : anyTaken v (afterAll v (newOf address ratios .meter) events) between ≡ false
+    pub idle : anyTaken v (afterAll v (newOf given .meter) events) between ≡ false
 
   -- the meter when the first of two reads comes
   abbrev pub sooner : History → Meter
-  sooner h = afterAll v (newOf (h .address) (h .ratios) .meter) (h .events)
+  sooner h = afterAll v (newOf (h .given) .meter) (h .events)
 
   -- the meter when the second comes
   abbrev pub later : History → Meter
@@ -53,21 +53,21 @@ module _ (v : View) where
 
   -- the exact energy of the samples accepted so far, at the first read and, as `still` says, at the second
   abbrev pub exactAt : ℕ → History → ℕ
-  exactAt e h = exactOf v e (newOf (h .address) (h .ratios) .meter) (h .events)
+  exactAt e h = exactOf v e (newOf (h .given) .meter) (h .events)
 
   -- a read of a quantity: a request for a meter that is answered with data, room for the reply, and the index of an item that shows it
-  pub record Poll (address quantity : ℕ) : Type 0 where
+  pub record Poll (g : Given) (quantity : ℕ) : Type 0 where
     pub request : List ℕ
     pub buffer : List ℕ
     pub index : ℕ
     pub asks : Asks v request
-    pub own : addressOf request ≡ address
+    pub own : addressOf request ≡ g .address
     pub room : 256 ≤ length buffer
     pub below : index < asks .count
     pub shows : itemAt v asks index .quantity ≡ quantity
 
   -- what the collector, told some ratios, makes of a meter's reply
-  abbrev pub collected : {address quantity : ℕ} → Ratios → Meter → Poll address quantity → Answer
+  abbrev pub collected : {g : Given} {quantity : ℕ} → Ratios → Meter → Poll g quantity → Answer
   collected r m p = collectorIn v (p .request) (replyTo v m (p .request) (p .buffer)) r (p .index)
 
   -- register and wrap are read, they join, and what they come to is within the bounds of the ratio's step
@@ -75,10 +75,10 @@ module _ (v : View) where
     pub count : Count
     pub turns : ℕ
     pub whole : WattHours
-    pub reads : register ≡ Reading (read.Energy count (stepOf (tOf (h .ratios))) (energyOf (tOf (h .ratios)) (count .0)))
+    pub reads : register ≡ Reading (read.Energy count (stepOf (tOf (h .given .ratios))) (energyOf (tOf (h .given .ratios)) (count .0)))
     pub wraps : wrapped ≡ Reading (read.Wrap turns)
-    pub joins : joinOf (h .ratios) count turns ≡ joined.Energy whole
-    pub bounds : Bounds (exactAt e h) (stepOf (tOf (h .ratios))) (whole .0)
+    pub joins : joinOf (h .given .ratios) count turns ≡ joined.Energy whole
+    pub bounds : Bounds (exactAt e h) (stepOf (tOf (h .given .ratios))) (whole .0)
 
   -- Low and High are read, they join, and what they come to is within the bounds of 1 Wh
   pub record HalvesRead (h : History) (e : ℕ) (lower upper : Answer) : Type 0 where
@@ -94,17 +94,17 @@ module _ (v : View) where
   -- order; between the two reads nothing is added to the exact energy
   pub record EnergyRead (h : History) (e : ℕ) : Type 0 where
     pub register-first :
-        (r : Poll (h .address) (quantity energyCount e)) (w : Poll (h .address) (quantity wrap e)) →
-        RegisterRead h e (collected (h .ratios) (sooner h) r) (collected (h .ratios) (later h) w)
+        (r : Poll (h .given) (quantity energyCount e)) (w : Poll (h .given) (quantity wrap e)) →
+        RegisterRead h e (collected (h .given .ratios) (sooner h) r) (collected (h .given .ratios) (later h) w)
     pub wrap-first :
-        (r : Poll (h .address) (quantity energyCount e)) (w : Poll (h .address) (quantity wrap e)) →
-        RegisterRead h e (collected (h .ratios) (later h) r) (collected (h .ratios) (sooner h) w)
+        (r : Poll (h .given) (quantity energyCount e)) (w : Poll (h .given) (quantity wrap e)) →
+        RegisterRead h e (collected (h .given .ratios) (later h) r) (collected (h .given .ratios) (sooner h) w)
     pub low-first :
-        (l : Poll (h .address) (quantity low e)) (u : Poll (h .address) (quantity high e)) →
-        HalvesRead h e (collected (h .ratios) (sooner h) l) (collected (h .ratios) (later h) u)
+        (l : Poll (h .given) (quantity low e)) (u : Poll (h .given) (quantity high e)) →
+        HalvesRead h e (collected (h .given .ratios) (sooner h) l) (collected (h .given .ratios) (later h) u)
     pub high-first :
-        (l : Poll (h .address) (quantity low e)) (u : Poll (h .address) (quantity high e)) →
-        HalvesRead h e (collected (h .ratios) (later h) l) (collected (h .ratios) (sooner h) u)
+        (l : Poll (h .given) (quantity low e)) (u : Poll (h .given) (quantity high e)) →
+        HalvesRead h e (collected (h .given .ratios) (later h) l) (collected (h .given .ratios) (sooner h) u)
     pub still : exactOf v e (sooner h) (h .between) ≡ 0
 
   -- STATEMENT: demand 3: each of the four energies is read so, in any history

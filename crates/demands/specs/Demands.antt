@@ -29,6 +29,7 @@ use Rattle.average.specs.declared.Average.{Average}
 use Rattle.average.specs.Windows.{WindowLengths, AverageLimits, LimitsBite}
 use Rattle.meter.specs.declared.samples.Sample.{Sample}
 use Rattle.meter.specs.declared.groups.Setup.{Setup}
+use Rattle.meter.specs.declared.given.Given.{Given}
 use Rattle.meter.specs.declared.Meter.{Meter}
 use Rattle.meter.specs.Energies.{ZeroToNeither}
 use Rattle.meter.specs.Meters.{meterOk}
@@ -100,7 +101,7 @@ pub record Ground : Type 0 where
 
 -- STATEMENT: demand 2, its first half: every reply is, byte for byte, the one that paper 01 gives
 pub record Replies : Type 0 where
-  pub new-meters : (address : ℕ) (r : Ratios) → NewAnswers address r
+  pub new-meters : (g : Given) → NewAnswers g
   pub frames : EveryFrame FramesWhen
   pub obeys : EveryFrame Obeys
   pub whole : EveryFrame RepliesSealed

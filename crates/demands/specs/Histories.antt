@@ -4,10 +4,10 @@ use Prim.Native.Nat.{ℕ, _+_, _<_}
 use mathlib.Core.Bool.{Bool, true, false, _||_}
 use mathlib.Core.List.{List, [], _∷_, map}
 use lib.ListN.{getD}
-use Rattle.ratio.specs.declared.Ratios.{Ratios}
 use Rattle.directory.specs.Views.{View}
 use Rattle.average.specs.declared.Average.{Average}
 use Rattle.meter.specs.declared.samples.Sample.{Sample}
+use Rattle.meter.specs.declared.given.Given.{Given}
 use Rattle.meter.specs.declared.groups.Setup.{Setup}
 use Rattle.meter.specs.declared.Meter.{Meter}
 use Rattle.meter.specs.Energies.{valueOf}
@@ -68,7 +68,7 @@ module _ (v : View) where
 
   -- STATEMENT: a new meter is as a program holds it, and stays so after events as a program hands them over
   pub record TypesKept : Type 0 where
-    pub new : (address : ℕ) (r : Ratios) → Typed (newOf address r .meter)
+    pub new : (g : Given) → Typed (newOf g .meter)
     pub event : (m : Meter) (x : Event) → Typed m → EventTyped x → Typed (afterEvent m x)
     pub events : (m : Meter) (xs : List Event) → Typed m → AllTyped xs → Typed (afterAll m xs)
 

@@ -22,29 +22,29 @@ module _ (v : View) where
   -- how often it did; and the two join to all of these steps
   pub record CountedIn (step : ℕ) (h : History v) (e : ℕ) : Type 0 where
     pub register-read :
-        (p : Poll v (h .address) (quantity energyCount e)) →
-        collected v (h .ratios) (sooner v h) p
+        (p : Poll v (h .given) (quantity energyCount e)) →
+        collected v (h .given .ratios) (sooner v h) p
         ≡ Reading (read.Energy (record { 0 = stepsAt step e h % 100000000 }) step (record { 0 = stepsAt step e h % 100000000 * step }))
     pub wrap-read :
-        (p : Poll v (h .address) (quantity wrap e)) →
-        collected v (h .ratios) (sooner v h) p ≡ Reading (read.Wrap (stepsAt step e h / 100000000))
+        (p : Poll v (h .given) (quantity wrap e)) →
+        collected v (h .given .ratios) (sooner v h) p ≡ Reading (read.Wrap (stepsAt step e h / 100000000))
     pub joins :
-        joinOf (h .ratios) (record { 0 = stepsAt step e h % 100000000 }) (stepsAt step e h / 100000000)
+        joinOf (h .given .ratios) (record { 0 = stepsAt step e h % 100000000 }) (stepsAt step e h / 100000000)
         ≡ joined.Energy (record { 0 = stepsAt step e h * step })
 
   -- STATEMENT: from T = 1,000,000 up every energy is counted in steps of 1,000,000 Wh, and its wrap is always read as 0; from 100,000
   -- to 999,999 in steps of 100,000 Wh
   pub record LastRows : Type 0 where
-    pub megawatt-hours : (h : History v) (e : ℕ) → e < 4 → 1000000 ≤ tOf (h .ratios) → CountedIn 1000000 h e
+    pub megawatt-hours : (h : History v) (e : ℕ) → e < 4 → 1000000 ≤ tOf (h .given .ratios) → CountedIn 1000000 h e
     pub no-turn :
-        (h : History v) (e : ℕ) → e < 4 → 1000000 ≤ tOf (h .ratios) → (p : Poll v (h .address) (quantity wrap e)) →
-        collected v (h .ratios) (sooner v h) p ≡ Reading (read.Wrap 0)
+        (h : History v) (e : ℕ) → e < 4 → 1000000 ≤ tOf (h .given .ratios) → (p : Poll v (h .given) (quantity wrap e)) →
+        collected v (h .given .ratios) (sooner v h) p ≡ Reading (read.Wrap 0)
     pub hundred-kilowatt-hours :
-        (h : History v) (e : ℕ) → e < 4 → 100000 ≤ tOf (h .ratios) → tOf (h .ratios) < 1000000 → CountedIn 100000 h e
+        (h : History v) (e : ℕ) → e < 4 → 100000 ≤ tOf (h .given .ratios) → tOf (h .given .ratios) < 1000000 → CountedIn 100000 h e
 
   -- every energy of every meter with such ratios is counted in steps of so many Wh
   abbrev pub CountsBy : ℕ → ℕ → ℕ → Type 0
-  CountsBy kta ktv step = (h : History v) (e : ℕ) → e < 4 → h .ratios ≡ record { kta = kta; ktv = ktv } → CountedIn step h e
+  CountsBy kta ktv step = (h : History v) (e : ℕ) → e < 4 → h .given .ratios ≡ record { kta = kta; ktv = ktv } → CountedIn step h e
 
   -- STATEMENT: the rows by the ratios themselves: the last before 1,000,000, the first from there up, a ratio of 120,000, and the largest
   pub record LastRatios : Type 0 where

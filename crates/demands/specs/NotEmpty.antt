@@ -5,11 +5,11 @@ use Prim.Native.Nat.{ℕ, _+_, _≤_, _<_}
 use mathlib.Core.Bool.{false}
 use mathlib.Core.List.{List, [], _∷_, map}
 use lib.ListN.{length, getD}
-use Rattle.ratio.specs.declared.Ratios.{Ratios}
 use Rattle.directory.specs.Item.{none}
 use Rattle.directory.specs.Views.{View}
 use Rattle.reading.specs.declared.Answer.the-variants.{Reading}
 use Rattle.meter.specs.declared.Answer.the-variants.{Accepted}
+use Rattle.meter.specs.declared.given.Given.{Given}
 use Rattle.meter.specs.declared.Meter.{Meter}
 use Rattle.meter.specs.Samples.{noSample}
 use Rattle.meter.specs.Meters.{newOf}
@@ -25,28 +25,28 @@ frames buffer fs = map (λ (bytes : List ℕ). Event.frame bytes buffer) fs
 
 module _ (v : View) where
   -- the history of a new meter with some events, and some between the two reads
-  abbrev pub HistoryOf : ℕ → Ratios → List Event → List Event → Type 0
-  HistoryOf address r events between =
-      (h : History v) × (h .address ≡ address) × (h .ratios ≡ r) × (h .events ≡ events) × (h .between ≡ between)
+  abbrev pub HistoryOf : Given → List Event → List Event → Type 0
+  HistoryOf g events between =
+      (h : History v) × (h .given ≡ g) × (h .events ≡ events) × (h .between ≡ between)
 
   -- a poll of the item of an index
-  abbrev pub ItemPoll : ℕ → ℕ → Type 0
-  ItemPoll address i = (p : Poll v address (getD (v .seen) i none .quantity)) × (p .asks .first + p .index ≡ i)
+  abbrev pub ItemPoll : Given → ℕ → Type 0
+  ItemPoll g i = (p : Poll v g (getD (v .seen) i none .quantity)) × (p .asks .first + p .index ≡ i)
 
   -- STATEMENT: a history for every accepted new meter, all events and any without an accepted sample between, as any frames are; a
   -- poll for every item of the directory and every own address; events as a program hands them over
   pub record NotEmpty : Type 0 where
     pub history :
-        (address : ℕ) (r : Ratios) (events between : List Event) → newOf address r .answer ≡ Accepted →
-        anyTaken v (afterAll v (newOf address r .meter) events) between ≡ false → HistoryOf address r events between
+        (g : Given) (events between : List Event) → newOf g .answer ≡ Accepted →
+        anyTaken v (afterAll v (newOf g .meter) events) between ≡ false → HistoryOf g events between
     pub idle : (m : Meter) (buffer : List ℕ) (fs : List (List ℕ)) → anyTaken v m (frames buffer fs) ≡ false
-    pub poll : (address i : ℕ) → 1 ≤ address → i < length (v .seen) → ItemPoll address i
+    pub poll : (g : Given) (i : ℕ) → 1 ≤ g .address → i < length (v .seen) → ItemPoll g i
     pub typed : AllTyped (Event.sample noSample ∷ Event.frame (0 ∷ []) [] ∷ [])
 
   -- STATEMENT: the round trip over histories: from an accepted new meter, after any events as a program hands them over, every item
   -- that can be polled, and each of the directory can, is read as its quantity, and never refused
   pub record ReadsAlways : Type 0 where
     pub polls :
-        (address : ℕ) (r : Ratios) (xs : List Event) → newOf address r .answer ≡ Accepted → AllTyped xs →
-        (q : ℕ) (p : Poll v address q) →
-        collected v r (afterAll v (newOf address r .meter) xs) p ≡ Reading (meaningOf (afterAll v (newOf address r .meter) xs) q)
+        (g : Given) (xs : List Event) → newOf g .answer ≡ Accepted → AllTyped xs →
+        (q : ℕ) (p : Poll v g q) →
+        collected v (g .ratios) (afterAll v (newOf g .meter) xs) p ≡ Reading (meaningOf (afterAll v (newOf g .meter) xs) q)

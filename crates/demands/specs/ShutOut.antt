@@ -15,9 +15,10 @@ use Rattle.directory.specs.Views.{View}
 use Rattle.reading.specs.declared.Answer.{Answer}
 use Rattle.reading.specs.Told.{told}
 use Rattle.meter.specs.declared.Answer.the-variants.{Accepted}
+use Rattle.meter.specs.declared.given.Given.{Given}
 use Rattle.meter.specs.declared.samples.Sample.{Sample}
 use Rattle.meter.specs.Samples.{sampleOk, sampleOf}
-use Rattle.meter.specs.Meters.{newOf}
+use Rattle.meter.specs.Meters.{givenOf, newOf}
 use Rattle.meter.specs.After.{afterOf}
 use Rattle.demands.specs.Histories.{Event, afterAll, exactOf}
 use Rattle.demands.specs.Demand3.{Poll, collected, Bounds}
@@ -42,20 +43,20 @@ tenWh = sampleOf (record { l1 = pos 3600000; l2 = pos 0; l3 = pos 0 })
 
 module _ (v : View) where
   -- some board and collector, whatever they are, as the Wh of an energy that they make of a new meter's events: demand 3 holds of them
-  abbrev pub Keeps : ℕ → Ratios → ℕ → (List Event → ℕ) → Type 0
-  Keeps address r e figure = (xs : List Event) → Bounds (exactOf v e (newOf address r .meter) xs) (stepOf (tOf r)) (figure xs)
+  abbrev pub Keeps : Given → ℕ → (List Event → ℕ) → Type 0
+  Keeps g e figure = (xs : List Event) → Bounds (exactOf v e (newOf g .meter) xs) (stepOf (tOf (g .ratios))) (figure xs)
 
   -- our own board and collector: after the events, register and wrap are polled, read and joined
   abbrev pub ours :
-      (address : ℕ) → Ratios → (e : ℕ) → Poll v address (quantity energyCount e) → Poll v address (quantity wrap e) → List Event → ℕ
-  ours address r e register wrapped xs =
-      joinedWh r
-      (collected v r (afterAll v (newOf address r .meter) xs) register)
-      (collected v r (afterAll v (newOf address r .meter) xs) wrapped)
+      (g : Given) (e : ℕ) → Poll v g (quantity energyCount e) → Poll v g (quantity wrap e) → List Event → ℕ
+  ours g e register wrapped xs =
+      joinedWh (g .ratios)
+      (collected v (g .ratios) (afterAll v (newOf g .meter) xs) register)
+      (collected v (g .ratios) (afterAll v (newOf g .meter) xs) wrapped)
 
   -- a board and collector by which demand 3 holds of +Ea of such a meter
   abbrev pub KeepsBare : (List Event → ℕ) → Type 0
-  KeepsBare figure = Keeps 1 bareRatios posEa figure
+  KeepsBare figure = Keeps (givenOf 1 bareRatios) posEa figure
 
   -- STATEMENT: demand 3 holds of our own board and collector, whatever the new meter, the energy and the polls; it fails of a
   -- collector that reports the same each time, of a board that ignores samples, of one that counts the first and nods at the others;
@@ -63,9 +64,9 @@ module _ (v : View) where
   -- sample within limits
   pub record ShutOut : Type 0 where
     pub kept :
-        (address : ℕ) (r : Ratios) → newOf address r .answer ≡ Accepted →
-        (e : ℕ) → e < 4 → (register : Poll v address (quantity energyCount e)) (wrapped : Poll v address (quantity wrap e)) →
-        Keeps address r e (ours address r e register wrapped)
+        (g : Given) → newOf g .answer ≡ Accepted →
+        (e : ℕ) → e < 4 → (register : Poll v g (quantity energyCount e)) (wrapped : Poll v g (quantity wrap e)) →
+        Keeps g e (ours g e register wrapped)
     pub same-each-time : (figure : List Event → ℕ) → ((xs : List Event) → figure xs ≡ figure []) → KeepsBare figure → ⊥
     pub ignores-samples :
         (figure : List Event → ℕ) → ((s : Sample) (xs : List Event) → figure (Event.sample s ∷ xs) ≡ figure xs) → KeepsBare figure → ⊥
@@ -77,5 +78,5 @@ module _ (v : View) where
         (t exact count wrap : ℕ) → count ≤ topCount → Bounds exact (stepOf t) (energyOf t (wrap * 100000000 + count) .0) →
         (count ≡ registerOf t (record { 0 = exact / 360000 }) .0) × (wrap ≡ wrapOf t (record { 0 = exact / 360000 }))
     pub takes :
-        (address : ℕ) (r : Ratios) (s : Sample) → newOf address r .answer ≡ Accepted → sampleOk (tOf r) s ≡ true →
-        afterOf (newOf address r .meter) s .answer ≡ Accepted
+        (g : Given) (s : Sample) → newOf g .answer ≡ Accepted → sampleOk (tOf (g .ratios)) s ≡ true →
+        afterOf (newOf g .meter) s .answer ≡ Accepted

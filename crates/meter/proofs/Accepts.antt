@@ -11,7 +11,6 @@ use Rattle.refusal.specs.declared.Refusal.the-variants.{MeterOutOfLimits, Ratio
 use Rattle.refusal.specs.Numbers.{refusedBy}
 use Rattle.signed.specs.declared.Signed.{Signed}
 use Rattle.signed.specs.Signs.{aboveOf, belowOf}
-use Rattle.ratio.specs.declared.Ratios.{Ratios}
 use Rattle.ratio.specs.Ratios.{ratiosOk, tOf}
 use Rattle.ratio.specs.Powers.{powerLimit}
 use Rattle.counts.specs.Counting.{topWh}
@@ -23,6 +22,7 @@ use Rattle.meter.specs.declared.samples.Sample.{Sample}
 use Rattle.meter.specs.declared.energies.Energy.{Energy}
 use Rattle.meter.specs.declared.energies.Energies.{Energies}
 use Rattle.meter.specs.declared.energies.Counters.{Counters}
+use Rattle.meter.specs.declared.given.Given.{Given}
 use Rattle.meter.specs.declared.groups.Setup.{Setup}
 use Rattle.meter.specs.declared.Answer.the-variants.{Accepted, Refused}
 use Rattle.meter.specs.declared.Answered.{Answered}
@@ -128,9 +128,9 @@ trues : (b : Bool) → (b && true && true && true && true) ≡ b
 trues true = refl
 trues false = refl
 
-blank-within : (a : ℕ) (r : Ratios) → meterOk (blankOf a r) ≡ (leb 1 a && ratiosOk r)
+blank-within : (g : Given) → meterOk (blankOf g) ≡ (leb 1 (g .address) && ratiosOk (g .ratios))
 unfolding meterOk groupOk wordOk
-blank-within a r = rw (blank-sample (tOf r), blank-average (tOf r) 0) (trues (leb 1 a && ratiosOk r))
+blank-within g = rw (blank-sample (tOf (g .ratios)), blank-average (tOf (g .ratios)) 0) (trues (leb 1 (g .address) && ratiosOk (g .ratios)))
 
 -- what follows from the two tests of a new meter, in their order
 abbrev made : Bool → Bool → Meter → Answered
@@ -139,7 +139,7 @@ made x y m =
     (cond y (answerWith (Refused OwnAddressZero) m)
     (answerWith Accepted m))
 
-module _ (a : ℕ) (r : Ratios) where
+module _ (g : Given) where
   new-picked : (x y : Bool) (m : Meter) → made x y m .answer ≡ firstOf RatioOutOfLimits OwnAddressZero EnergyPastTop x (not y) true
   new-picked true true m = refl
   new-picked true false m = refl
@@ -150,13 +150,13 @@ module _ (a : ℕ) (r : Ratios) where
   new-same true false m = refl
   new-same false y m = refl
 
-  new-answer : newOf a r .answer ≡ firstOf RatioOutOfLimits OwnAddressZero EnergyPastTop (ratiosOk r) (not (eqb a 0)) true
+  new-answer : newOf g .answer ≡ firstOf RatioOutOfLimits OwnAddressZero EnergyPastTop (ratiosOk (g .ratios)) (not (eqb (g .address) 0)) true
   unfolding newOf
-  new-answer = new-picked (ratiosOk r) (eqb a 0) (blankOf a r)
+  new-answer = new-picked (ratiosOk (g .ratios)) (eqb (g .address) 0) (blankOf g)
 
-  pub new-blank : newOf a r .meter ≡ blankOf a r
+  pub new-blank : newOf g .meter ≡ blankOf g
   unfolding newOf
-  new-blank = new-same (ratiosOk r) (eqb a 0) (blankOf a r)
+  new-blank = new-same (ratiosOk (g .ratios)) (eqb (g .address) 0) (blankOf g)
 
 -- an address is 0, or at least 1
 zero-no : (a : ℕ) → not (eqb a 0) ≡ leb 1 a
@@ -167,13 +167,13 @@ zero-is : (a : ℕ) → (not (eqb a 0) ≡ false) ↔ (a ≡ 0)
 zero-is zero = (λ h. refl, λ h. refl)
 zero-is (suc n) = (λ h. absurd (false≢true (sym h ∙ zero-no (suc n) ∙ le-leb 1 (suc n) (omega arith))), λ h. absurd (omega arith))
 
-four : (a : ℕ) (r : Ratios) → (newOf a r .answer ≡ Refused OwnAddressZero) ↔ ((ratiosOk r ≡ true) × (a ≡ 0))
-four a r =
-    let f = second-fails _ _ _ refl refl refl (ratiosOk r) (not (eqb a 0)) true in
-    rw (new-answer a r) (λ h. (f .0 h .0, zero-is a .0 (f .0 h .1)), λ h. f .1 (h .0, zero-is a .1 (h .1)))
+four : (g : Given) → (newOf g .answer ≡ Refused OwnAddressZero) ↔ ((ratiosOk (g .ratios) ≡ true) × (g .address ≡ 0))
+four g =
+    let f = second-fails _ _ _ refl refl refl (ratiosOk (g .ratios)) (not (eqb (g .address) 0)) true in
+    rw (new-answer g) (λ h. (f .0 h .0, zero-is (g .address) .0 (f .0 h .1)), λ h. f .1 (h .0, zero-is (g .address) .1 (h .1)))
 
-new-only : (a : ℕ) (r : Ratios) (n : ℕ) → answerTold (newOf a r .answer) ≡ refusedBy n → (n ≡ 3) ⊎ (n ≡ 4)
-new-only a r n h = by (only-these _ _ _ (ratiosOk r) (not (eqb a 0)) true n (rw (new-answer a r) at h))
+new-only : (g : Given) (n : ℕ) → answerTold (newOf g .answer) ≡ refusedBy n → (n ≡ 3) ⊎ (n ≡ 4)
+new-only g n h = by (only-these _ _ _ (ratiosOk (g .ratios)) (not (eqb (g .address) 0)) true n (rw (new-answer g) at h))
   where
     by : (n ≡ 3) ⊎ (n ≡ 4) ⊎ ((true ≡ false) × (n ≡ 6)) → (n ≡ 3) ⊎ (n ≡ 4)
     by (inl e) = inl e
@@ -181,34 +181,34 @@ new-only a r n h = by (only-these _ _ _ (ratiosOk r) (not (eqb a 0)) true n (rw 
     by (inr (inr e)) = absurd (false≢true (sym (e .0)))
 
 -- no test fails
-new-made : (a : ℕ) (r : Ratios) → (newOf a r .answer ≡ Accepted) ↔ ((ratiosOk r ≡ true) × (not (eqb a 0) ≡ true) × (true ≡ true))
-new-made a r = rw (new-answer a r) (none-fails RatioOutOfLimits OwnAddressZero EnergyPastTop (ratiosOk r) (not (eqb a 0)) true)
+new-made : (g : Given) → (newOf g .answer ≡ Accepted) ↔ ((ratiosOk (g .ratios) ≡ true) × (not (eqb (g .address) 0) ≡ true) × (true ≡ true))
+new-made g = rw (new-answer g) (none-fails RatioOutOfLimits OwnAddressZero EnergyPastTop (ratiosOk (g .ratios)) (not (eqb (g .address) 0)) true)
 
-new-accepted : (a : ℕ) (r : Ratios) → (newOf a r .answer ≡ Accepted) ↔ ((ratiosOk r ≡ true) × (a ≡ 0 → ⊥))
-new-accepted a r = (
-  λ h. let t = new-made a r .0 h in (t .0, eqb-false a 0 (not-true _ (t .1))),
-  λ h. new-made a r .1 (h .0, ap not (ne-eqb a 0 (h .1)), refl),
+new-accepted : (g : Given) → (newOf g .answer ≡ Accepted) ↔ ((ratiosOk (g .ratios) ≡ true) × (g .address ≡ 0 → ⊥))
+new-accepted g = (
+  λ h. let t = new-made g .0 h in (t .0, eqb-false (g .address) 0 (not-true _ (t .1))),
+  λ h. new-made g .1 (h .0, ap not (ne-eqb (g .address) 0 (h .1)), refl),
 )
 
-new-within : (a : ℕ) (r : Ratios) → (newOf a r .answer ≡ Accepted) ↔ (meterOk (blankOf a r) ≡ true)
-new-within a r =
-    rw (blank-within a r) (
-      λ h. let t = new-made a r .0 h in (λ i. (sym (zero-no a) ∙ t .1) i && t .0 i),
-      λ h. let t = and-eq-true-iff (leb 1 a) (ratiosOk r) .0 h in new-made a r .1 (t .1, zero-no a ∙ t .0, refl),
+new-within : (g : Given) → (newOf g .answer ≡ Accepted) ↔ (meterOk (blankOf g) ≡ true)
+new-within g =
+    rw (blank-within g) (
+      λ h. let t = new-made g .0 h in (λ i. (sym (zero-no (g .address)) ∙ t .1) i && t .0 i),
+      λ h. let t = and-eq-true-iff (leb 1 (g .address)) (ratiosOk (g .ratios)) .0 h in new-made g .1 (t .1, zero-no (g .address) ∙ t .0, refl),
     )
 
 -- an accepted meter is within limits
-pub made-within : (a : ℕ) (r : Ratios) → newOf a r .answer ≡ Accepted → meterOk (newOf a r .meter) ≡ true
-made-within a r made = ap meterOk (new-blank a r) ∙ new-within a r .0 made
+pub made-within : (g : Given) → newOf g .answer ≡ Accepted → meterOk (newOf g .meter) ≡ true
+made-within g made = ap meterOk (new-blank g) ∙ new-within g .0 made
 
-pub new-answers : (a : ℕ) (r : Ratios) → NewAnswers a r
-new-answers a r = record {
-  row-3 = by-number (newOf a r .answer) RatioOutOfLimits (rw (new-answer a r) (first-fails _ _ _ refl refl refl (ratiosOk r) (not (eqb a 0)) true));
-  row-4 = by-number (newOf a r .answer) OwnAddressZero (four a r);
-  only = new-only a r;
-  accepted = new-accepted a r;
-  blank = new-blank a r;
-  within = new-within a r;
+pub new-answers : (g : Given) → NewAnswers g
+new-answers g = record {
+  row-3 = by-number (newOf g .answer) RatioOutOfLimits (rw (new-answer g) (first-fails _ _ _ refl refl refl (ratiosOk (g .ratios)) (not (eqb (g .address) 0)) true));
+  row-4 = by-number (newOf g .answer) OwnAddressZero (four g);
+  only = new-only g;
+  accepted = new-accepted g;
+  blank = new-blank g;
+  within = new-within g;
 }
 
 -- ---- setup words

@@ -1,12 +1,11 @@
 -- Each answer of the definitions, by the tests that lead to it.
 use mathlib.Core.Path.{_≡_, refl}
 use mathlib.Core.Bool.{Bool, true, false, not, cond}
-use Prim.Native.Nat.{ℕ}
 use lib.Dec.{eqb}
 use Rattle.refusal.specs.declared.Refusal.the-variants.{MeterOutOfLimits, RatioOutOfLimits, OwnAddressZero, SampleOutOfLimits, EnergyPastTop}
-use Rattle.ratio.specs.declared.Ratios.{Ratios}
 use Rattle.ratio.specs.Ratios.{ratiosOk}
 use Rattle.meter.specs.declared.samples.Sample.{Sample}
+use Rattle.meter.specs.declared.given.Given.{Given}
 use Rattle.meter.specs.declared.Meter.{Meter}
 use Rattle.meter.specs.declared.Answer.the-variants.{Accepted, Refused}
 use Rattle.meter.specs.declared.Answered.{Answered}
@@ -14,16 +13,16 @@ use Rattle.meter.specs.Samples.{sampleOk}
 use Rattle.meter.specs.Meters.{meterT, meterOk, blankOf, answerWith, newOf}
 use Rattle.meter.specs.After.{nextOf, meterWithinTop, afterOf}
 
-module _ (address : ℕ) (ratios : Ratios) where
-  pub new-3 : ratiosOk ratios ≡ false → newOf address ratios ≡ answerWith (Refused RatioOutOfLimits) (blankOf address ratios)
+module _ (given : Given) where
+  pub new-3 : ratiosOk (given .ratios) ≡ false → newOf given ≡ answerWith (Refused RatioOutOfLimits) (blankOf given)
   unfolding newOf
   new-3 r = rw r refl
 
-  pub new-4 : ratiosOk ratios ≡ true → eqb address 0 ≡ true → newOf address ratios ≡ answerWith (Refused OwnAddressZero) (blankOf address ratios)
+  pub new-4 : ratiosOk (given .ratios) ≡ true → eqb (given .address) 0 ≡ true → newOf given ≡ answerWith (Refused OwnAddressZero) (blankOf given)
   unfolding newOf
   new-4 r a = rw (r, a) refl
 
-  pub new-made : ratiosOk ratios ≡ true → eqb address 0 ≡ false → newOf address ratios ≡ answerWith Accepted (blankOf address ratios)
+  pub new-made : ratiosOk (given .ratios) ≡ true → eqb (given .address) 0 ≡ false → newOf given ≡ answerWith Accepted (blankOf given)
   unfolding newOf
   new-made r a = rw (r, a) refl
 

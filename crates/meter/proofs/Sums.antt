@@ -5,10 +5,10 @@ use Prim.Native.Nat.{ℕ, zero, suc, _+_}
 use native.Mathlib.Omega.{arith}
 use lib.IntN.{ℤ, pos, negsuc, _+ℤ_}
 use Rattle.signed.specs.Signs.{signedOf, aboveOf, belowOf}
-use Rattle.ratio.specs.declared.Ratios.{Ratios}
 use Rattle.meter.specs.declared.energies.Energy.{Energy}
 use Rattle.meter.specs.declared.samples.Powers.{Powers}
 use Rattle.meter.specs.declared.samples.Sample.{Sample}
+use Rattle.meter.specs.declared.given.Given.{Given}
 use Rattle.meter.specs.declared.Meter.{Meter}
 use Rattle.meter.specs.Samples.{inForce, sampleOk}
 use Rattle.meter.specs.Energies.{plusOf, valueOf}
@@ -42,16 +42,16 @@ pub after-adds : (e : ℕ) (m : Meter) (s : Sample) → valueOf (energyAt e (aft
 unfolding afterOf
 after-adds e m s = picked-adds (meterOk m) (sampleOk (meterT m) s) (meterWithinTop (nextOf m s)) e m s
 
-blank-zero : (e a : ℕ) (r : Ratios) → valueOf (energyAt e (blankOf a r)) ≡ 0
-blank-zero zero a r = refl
-blank-zero (suc zero) a r = refl
-blank-zero (suc (suc zero)) a r = refl
-blank-zero (suc (suc (suc zero))) a r = refl
-blank-zero (suc (suc (suc (suc e)))) a r = refl
+blank-zero : (e : ℕ) (g : Given) → valueOf (energyAt e (blankOf g)) ≡ 0
+blank-zero zero g = refl
+blank-zero (suc zero) g = refl
+blank-zero (suc (suc zero)) g = refl
+blank-zero (suc (suc (suc zero))) g = refl
+blank-zero (suc (suc (suc (suc e)))) g = refl
 
 -- and is 0 in a new meter
-pub new-zero : (e a : ℕ) (r : Ratios) → valueOf (energyAt e (newOf a r .meter)) ≡ 0
-new-zero e a r = ap (λ (m : Meter). valueOf (energyAt e m)) (new-blank a r) ∙ blank-zero e a r
+pub new-zero : (e : ℕ) (g : Given) → valueOf (energyAt e (newOf g .meter)) ≡ 0
+new-zero e g = ap (λ (m : Meter). valueOf (energyAt e m)) (new-blank g) ∙ blank-zero e g
 
 -- in whole numbers
 module _ (p : Powers) (x : ℕ) where

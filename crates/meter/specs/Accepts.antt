@@ -8,34 +8,34 @@ use mathlib.Core.List.{List, _∷_, _++_}
 use lib.ListN.{replicate}
 use Rattle.refusal.specs.declared.Refusal.{Refusal}
 use Rattle.refusal.specs.Numbers.{refusedBy}
-use Rattle.ratio.specs.declared.Ratios.{Ratios}
 use Rattle.ratio.specs.Ratios.{ratiosOk}
 use Rattle.average.specs.declared.Average.{Average}
 use Rattle.meter.specs.declared.samples.Sample.{Sample}
+use Rattle.meter.specs.declared.given.Given.{Given}
 use Rattle.meter.specs.declared.groups.Setup.{Setup}
 use Rattle.meter.specs.declared.Answer.the-variants.{Accepted, Refused}
 use Rattle.meter.specs.declared.Meter.{Meter}
 use Rattle.meter.specs.Samples.{sampleOk, noSample}
 use Rattle.meter.specs.Groups.{setupOk, noSetup, codeOf, withStandard}
-use Rattle.meter.specs.Meters.{meterT, meterOk, blankOf, withAverage, withSetup, answerTold, answerWith, newOf}
+use Rattle.meter.specs.Meters.{meterT, meterOk, givenOf, blankOf, withAverage, withSetup, answerTold, answerWith, newOf}
 use Rattle.meter.specs.After.{nextOf, meterWithinTop, afterOf}
 
--- ---- a new meter of an address, with ratios
+-- ---- a new meter, by what it is given
 
-module _ (a : ℕ) (r : Ratios) where
+module _ (g : Given) where
   -- its answer in numbers
   abbrev NewGives : List ℕ → Type 0
-  NewGives numbers = answerTold (newOf a r .answer) ≡ numbers
+  NewGives numbers = answerTold (newOf g .answer) ≡ numbers
 
   -- STATEMENT: a new meter is refused with 3 and with 4 exactly as their rows say, with no other number, and else accepted; the meter
-  -- handed back is the blank one of that address and those ratios, and within limits exactly when it is accepted
+  -- handed back is the blank one of what was given, and within limits exactly when it is accepted
   pub record NewAnswers : Type 0 where
-    pub row-3 : NewGives (refusedBy 3) ↔ (ratiosOk r ≡ false)
-    pub row-4 : NewGives (refusedBy 4) ↔ ((ratiosOk r ≡ true) × (a ≡ 0))
+    pub row-3 : NewGives (refusedBy 3) ↔ (ratiosOk (g .ratios) ≡ false)
+    pub row-4 : NewGives (refusedBy 4) ↔ ((ratiosOk (g .ratios) ≡ true) × (g .address ≡ 0))
     pub only : (n : ℕ) → NewGives (refusedBy n) → (n ≡ 3) ⊎ (n ≡ 4)
-    pub accepted : (newOf a r .answer ≡ Accepted) ↔ ((ratiosOk r ≡ true) × (a ≡ 0 → ⊥))
-    pub blank : newOf a r .meter ≡ blankOf a r
-    pub within : (newOf a r .answer ≡ Accepted) ↔ (meterOk (blankOf a r) ≡ true)
+    pub accepted : (newOf g .answer ≡ Accepted) ↔ ((ratiosOk (g .ratios) ≡ true) × (g .address ≡ 0 → ⊥))
+    pub blank : newOf g .meter ≡ blankOf g
+    pub within : (newOf g .answer ≡ Accepted) ↔ (meterOk (blankOf g) ≡ true)
 
 -- ---- a sample handed to a meter
 
@@ -77,7 +77,7 @@ module _ (m : Meter) (s : Sample) where
 abbrev pub at299 : ℕ → Meter
 at299 code =
     withSetup
-    (withAverage (blankOf 1 (record { kta = 1; ktv = 10 })) (record { window = record { seconds = 299; sum = 0 }; last = 0; peak = 0 }))
+    (withAverage (blankOf (givenOf 1 (record { kta = 1; ktv = 10 }))) (record { window = record { seconds = 299; sum = 0 }; last = 0; peak = 0 }))
     (withStandard noSetup (replicate 10 0 ++ (code ∷ replicate 5 0)))
 
 -- STATEMENT: 0x200a does have its effect: of two such meters, within limits and alike but for it, one closes its window with the next

@@ -46,10 +46,10 @@ abbrev pub givenOf : ℕ → Ratios → Given
 givenOf address ratios = record { address = address; ratios = ratios }
 
 -- counters and remainders 0, setup words 0, sample 0 except sequence 1; request 1's figures 0
-abbrev pub blankOf : ℕ → Ratios → Meter
-blankOf address ratios =
+abbrev pub blankOf : Given → Meter
+blankOf given =
     record {
-      given = givenOf address ratios;
+      given = given;
       counters = noCounters;
       latest = noSample;
       average = noAverage;
@@ -101,10 +101,10 @@ abbrev pub answerWith : Answer → Meter → Answered
 answerWith answer m = record { answer = answer; meter = m }
 
 -- a new meter, the first that applies; one that is refused is handed back out of limits, so that every later call refuses it
-unfoldable pub newOf : ℕ → Ratios → Answered
-newOf address ratios =
+unfoldable pub newOf : Given → Answered
+newOf given =
     -- 3. KTA or KTV out of limits
-    cond (not (ratiosOk ratios)) (answerWith (Refused RatioOutOfLimits) (blankOf address ratios))
+    cond (not (ratiosOk (given .ratios))) (answerWith (Refused RatioOutOfLimits) (blankOf given))
     -- 4. own address 0
-    (cond (eqb address 0) (answerWith (Refused OwnAddressZero) (blankOf address ratios))
-    (answerWith Accepted (blankOf address ratios)))
+    (cond (eqb (given .address) 0) (answerWith (Refused OwnAddressZero) (blankOf given))
+    (answerWith Accepted (blankOf given)))

@@ -8,7 +8,7 @@ ghost use mathlib.Core.Path.{_≡_};
 ghost use mathlib.Core.Bool.{true};
 ghost use Rattle.meter.specs.declared.Answer.the-variants.{Refused};
 ghost use Rattle.meter.specs.Samples.{sampleOk};
-ghost use Rattle.meter.specs.Meters.{meterT, meterOk, blankOf, setUpOf, answerWith, newOf};
+ghost use Rattle.meter.specs.Meters.{meterT, meterOk, givenOf, blankOf, setUpOf, answerWith, newOf};
 ghost use Rattle.meter.specs.After.{nextOf, afterOf};
 use average::Average;
 use energies::Counters;
@@ -58,9 +58,10 @@ impl Meter {
 
     // A new meter. If it is refused, its record is out of limits, so that every later call refuses it too.
     pub fn new(address: u8, ratios: Ratios) -> Answered
-        ensures { λ r. ⌜ r ≡ newOf address ratios ⌝ }
+        ensures { λ r. ⌜ r ≡ newOf (givenOf address ratios) ⌝ }
     {
-        let meter = Meter::blank(address, ratios);
+        let given = Given { address, ratios };
+        let meter = Meter::blank(given);
         if !ratios.within() {
             return meter.refused(Refusal::RatioOutOfLimits);
         }
@@ -74,11 +75,11 @@ impl Meter {
     }
 
     // The record of a new meter, whatever it is given.
-    fn blank(address: u8, ratios: Ratios) -> Meter
-        ensures { λ r. ⌜ r ≡ blankOf address ratios ⌝ }
+    fn blank(given: Given) -> Meter
+        ensures { λ r. ⌜ r ≡ blankOf given ⌝ }
     {
         Meter {
-            given: Given { address, ratios },
+            given,
             counters: Counters::blank(),
             latest: Sample::blank(),
             average: Average::blank(),

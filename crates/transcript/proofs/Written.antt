@@ -11,7 +11,7 @@ use Rattle.refusal.specs.declared.Refusal.{Refusal}
 use Rattle.lines.specs.Lines.{lineOk, bytesOf}
 use Rattle.modbus.proofs.Stores.{sets-taken}
 use Rattle.meter.specs.declared.Meter.{Meter}
-use Rattle.meter.specs.Meters.{meterOk}
+use Rattle.meter.specs.Meters.{meterOk, givenOf}
 use Rattle.meter.proofs.Accepts.{new-answers, made-within}
 use Rattle.board.specs.declared.Reply.the-variants.{Refused}
 use Rattle.transcript.specs.Transcript.{outcomeOf, meterAfter, benchMeter, benchText, roomFor, Transcribed, TextWritten}
@@ -31,7 +31,9 @@ whole input before answer after h t =
 
 new : meterOk benchMeter ≡ true
 unfolding benchMeter
-new = made-within 1 (record { kta = 1; ktv = 10 }) (new-answers 1 (record { kta = 1; ktv = 10 }) .accepted .1 (refl, λ e. omega arith))
+new =
+    let g = givenOf 1 (record { kta = 1; ktv = 10 }) in
+    made-within g (new-answers g .accepted .1 (refl, λ e. omega arith))
 
 within : (m : Meter) (line : List ℕ) → meterOk m ≡ true → meterOk (meterAfter m line) ≡ true
 unfolding meterAfter outcomeOf

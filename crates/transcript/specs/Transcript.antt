@@ -9,7 +9,7 @@ use lib.Seq.{sets}
 use Rattle.refusal.specs.declared.Refusal.{Refusal}
 use Rattle.lines.specs.Lines.{lineOk, bytesOf, textOf}
 use Rattle.meter.specs.declared.Meter.{Meter}
-use Rattle.meter.specs.Meters.{meterOk, newOf}
+use Rattle.meter.specs.Meters.{meterOk, givenOf, newOf}
 use Rattle.board.specs.declared.Reply.{Reply}
 use Rattle.board.specs.declared.Reply.the-variants.{Silent, Sent, Refused}
 use Rattle.board.specs.Board.{Outcome, boardOf}
@@ -57,7 +57,7 @@ transcriptOf m (line ∷ lines) = lineText m line ++ (0x0A ∷ transcriptOf (met
 
 -- address 1, KTA 1, KTV 10, new
 unfoldable pub benchMeter : Meter
-benchMeter = newOf 1 (record { kta = 1; ktv = 10 }) .meter
+benchMeter = newOf (givenOf 1 (record { kta = 1; ktv = 10 })) .meter
 
 -- the text of the whole input; no header
 unfoldable pub benchText : List ℕ → List ℕ

@@ -8,7 +8,7 @@ use lib.Seq.{sets, length-sets}
 use Rattle.transcript.specs.Transcript.{linesOf, transcriptOf, lineText, meterAfter, benchMeter, benchText}
 use Rattle.meter.specs.declared.Meter.{Meter}
 use Rattle.meter.specs.declared.Answered.{Answered}
-use Rattle.meter.specs.Meters.{newOf}
+use Rattle.meter.specs.Meters.{givenOf, newOf}
 use Rattle.words.proofs.Laws.{sets-append}
 use Rattle.transcript.proofs.Texts.{line-ends, next-text, next-length}
 use Rattle.transcript.proofs.Written.{text-written}
@@ -26,7 +26,7 @@ Inv-loop input text₀ meter₀ at₀ end₀ text meter at end =
 abbrev μ-loop : tie.MeasureT-loop
 μ-loop input text₀ meter₀ at₀ end₀ text meter at end = length input - at
 
-begun : (made : Answered) (input : List ℕ) → made ≡ newOf 1 (record { kta = 1; ktv = 10 }) → transcriptOf (made .meter) (linesOf input) ≡ benchText input
+begun : (made : Answered) (input : List ℕ) → made ≡ newOf (givenOf 1 (record { kta = 1; ktv = 10 })) → transcriptOf (made .meter) (linesOf input) ≡ benchText input
 unfolding benchText benchMeter
 begun made input e = ap (λ (x : Answered). transcriptOf (x .meter) (linesOf input)) e
 
