@@ -1,10 +1,11 @@
 -- Each test is computed on its wrong items.
 use mathlib.Core.Path.{refl}
 use Rattle.directory.specs.Order.{ascends, every}
+use Rattle.directory.specs.Tenant.{leading}
 use Rattle.directory.specs.Bites.{TestsBite}
 
 pub tests-bite : TestsBite
-unfolding ascends every
+unfolding ascends every leading
 tests-bite = record {
   passed = refl;
   overlap = refl;
@@ -27,4 +28,11 @@ tests-bite = record {
   meaning-alone = refl;
   one-word-at-most = refl;
   words-past-a-frame = refl;
+  setup-seen = refl;
+  output-seen = refl;
+  identifier-seen = refl;
+  low-seen = refl;
+  high-seen = refl;
+  wrap-seen = refl;
+  setup-hidden = refl;
 }

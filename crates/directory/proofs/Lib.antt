@@ -2,6 +2,7 @@ pub mod ByKind
 pub mod Flat
 pub mod Order
 pub mod Views
+pub mod Tenant
 pub mod Shapes
 pub mod Finds
 pub mod Runs

@@ -22,7 +22,7 @@ pub right : (a b : Bool) → T (a && b) → T b
 right true b t = t
 right false b t = absurd t
 
-both : (a b : Bool) → T a → T b → T (a && b)
+pub both : (a b : Bool) → T a → T b → T (a && b)
 both true b s t = t
 both false b s t = absurd s
 
@@ -62,7 +62,7 @@ every-at test [] t k h = let z : ⊥ = omega arith in absurd z
 every-at test (it ∷ its) t zero h = holds (test it) (left (test it) _ t)
 every-at test (it ∷ its) t (suc k) h = every-at test its (right (test it) _ t) k (omega arith)
 
-every-take : (test : Item → Bool) (its : List Item) (n : ℕ) → T (every test its) → T (every test (take n its))
+pub every-take : (test : Item → Bool) (its : List Item) (n : ℕ) → T (every test its) → T (every test (take n its))
 unfolding every
 every-take test its zero h = tt
 every-take test [] (suc n) h = tt

@@ -68,6 +68,18 @@ stands-next {its} asc k h =
     let x = ends (getD its k none) in
     record { looks = skipped asc x k h (omega (arith, fills-some asc k h)) ∙ rw add-one (first-only x (suc k) (ascends-behind asc k h)) }
 
+-- what is found there is that item
+here-at : (l : List Item) (x i k : ℕ) → here l x i ≡ At k → k ≡ i
+here-at [] x i k e = let z : _≡_ {A = ℕ} 0 1 = cc in let y : ⊥ = omega arith in absurd y
+here-at (it ∷ l) x i k e = by (eqb (it .start) x) e
+  where
+    by : (b : Bool) → cond b (At i) Nothing ≡ At k → k ≡ i
+    by true e = cc
+    by false e = let z : _≡_ {A = ℕ} 0 1 = cc in let y : ⊥ = omega arith in absurd y
+
+pub stands-here : {its : List Item} {i x k : ℕ} → Stands its i x → findIn its x 0 ≡ At k → k ≡ i
+stands-here {its} {i} {x} {k} s e = here-at (drop i its) x i k (sym (s .looks) ∙ e)
+
 -- the item of index i starts at the address, or none does
 module _ {its : List Item} {i x : ℕ} (s : Stands its i x) where
   pub stands-end : length its ≤ i → findIn its x 0 ≡ Nothing

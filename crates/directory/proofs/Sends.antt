@@ -26,13 +26,25 @@ use Rattle.directory.proofs.Finds.{found-inside}
 use Rattle.directory.proofs.Runs.{Stands, stands-first, stands-next, stands-end, stands-off, stands-on, run-nowhere, run-starts, run-done, run-gap, run-half, run-next}
 
 -- what is left of a run from the item of index first + count on
-record Rest (dir : List Item) (first count due f c : ℕ) : Type 0 where
-  same : f ≡ first
-  more : count ≤ c
-  inside : first + c ≤ length dir
-  sends : wordsOf (take (c - count) (drop (first + count) dir)) ≡ due
+pub record Rest (dir : List Item) (first count due f c : ℕ) : Type 0 where
+  pub same : f ≡ first
+  pub more : count ≤ c
+  pub inside : first + c ≤ length dir
+  pub sends : wordsOf (take (c - count) (drop (first + count) dir)) ≡ due
 
-some-due : (due : ℕ) → (due ≡ 0) ⊎ (0 < due)
+-- where words are due, an item is left
+pub unfinished : {dir : List Item} {first count due f c : ℕ} → Rest dir first count due f c → 0 < due → count < c
+unfolding wordsOf
+unfinished {dir} {first} {count} {due} {f} {c} r d = by (ltb count c) refl
+  where
+    by : (b : Bool) → ltb count c ≡ b → count < c
+    by true t = ltb-true count c t
+    by false t =
+        let none-left : c - count ≡ 0 = omega (arith, r .more, ltb-false count c t) in
+        let z : 0 ≡ due = rw none-left at (r .sends) in
+        absurd (omega (arith, z, d))
+
+pub some-due : (due : ℕ) → (due ≡ 0) ⊎ (0 < due)
 some-due zero = inl refl
 some-due (suc due) = inr (omega arith)
 
@@ -90,7 +102,7 @@ onward dir first count x due f c (goes h w p) e later = behind dir first count d
 
 module _ (dir : List Item) (asc : Ascends 0 dir) (narrow : (k : ℕ) → k < length dir → Narrow (getD dir k none)) (first : ℕ) where
   -- each item sends a word at least, so that the words due last for the items
-  rest : (fuel count x due f c : ℕ) → due ≤ fuel → first + count ≤ length dir → Stands dir (first + count) x → runFrom dir first count x due ≡ Items f c → Rest dir first count due f c
+  pub rest : (fuel count x due f c : ℕ) → due ≤ fuel → first + count ≤ length dir → Stands dir (first + count) x → runFrom dir first count x due ≡ Items f c → Rest dir first count due f c
   rest zero count x due f c l h s e = finished dir first count x due f c h (omega arith) e
   rest (suc fuel) count x due f c l h s e =
       ⊎-elim

@@ -1,12 +1,14 @@
--- Paper 01, "The directory": the tests of a directory, and of a view, bite. Each is computed on what is wrong in one thing alone.
+-- Paper 01, "The directory", and paper 02, request 3: the tests of a directory, of a view, and of what a tenant sees of it, bite. Each is
+-- computed on what is wrong in one thing alone.
 use mathlib.Core.Path.{_≡_}
 use mathlib.Core.Bool.{true, false}
 use mathlib.Core.List.{[], _∷_}
 use Rattle.directory.specs.declared.Item.{Item}
 use Rattle.directory.specs.Item.{item}
-use Rattle.directory.specs.Quantity.{quantity, voltage, kta, only, L1, L2}
+use Rattle.directory.specs.Quantity.{quantity, voltage, low, high, wrap, kta, plain, only, L1, L2, negEr, wordIdentifier, setup2000, setup2200}
 use Rattle.directory.specs.Order.{ascends, every, narrow, ruled, shaped, meant, tested}
-use Rattle.directory.specs.Views.{passes}
+use Rattle.directory.specs.Views.{View, passes}
+use Rattle.directory.specs.Tenant.{hides}
 
 -- a good item: an L of the byte block
 abbrev good : Item
@@ -15,6 +17,10 @@ good = item 0x301 4 2 (quantity voltage L1)
 -- another, which starts within it
 abbrev early : Item
 early = item 0x303 4 2 (quantity voltage L2)
+
+-- a view with another item, at an address
+abbrev with : Item → View
+with it = record { seen = good ∷ it ∷ []; most = 2 }
 
 -- STATEMENT: the good item passes, alone and with two words at the most; each test rejects what is wrong
 pub record TestsBite : Type 0 where
@@ -51,3 +57,12 @@ pub record TestsBite : Type 0 where
   -- of a view: no L may be asked for; 126 words, with head and CRC, are 257 bytes
   pub one-word-at-most : passes (record { seen = good ∷ []; most = 1 }) ≡ false
   pub words-past-a-frame : passes (record { seen = good ∷ []; most = 126 }) ≡ false
+  -- of a tenant's view: a setup word of either group, the identifier 0x1114, a Low, a High, a wrap at 0x103d or before
+  pub setup-seen : hides (with (item 0x103d 1 1 (quantity plain (setup2000 0)))) ≡ false
+  pub output-seen : hides (with (item 0x103d 1 1 (quantity plain (setup2200 23)))) ≡ false
+  pub identifier-seen : hides (with (item 0x103d 1 1 (quantity plain wordIdentifier))) ≡ false
+  pub low-seen : hides (with (item 0x103c 2 2 (quantity low negEr))) ≡ false
+  pub high-seen : hides (with (item 0x103c 2 2 (quantity high negEr))) ≡ false
+  pub wrap-seen : hides (with (item 0x103d 1 1 (quantity wrap negEr))) ≡ false
+  -- behind that it sees nothing
+  pub setup-hidden : hides (with (item 0x103e 1 1 (quantity plain (setup2000 0)))) ≡ true

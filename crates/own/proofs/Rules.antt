@@ -10,10 +10,12 @@ use Rattle.directory.specs.declared.Reach.{Reach}
 use Rattle.directory.specs.Order.{ascends, every, ruled}
 use Rattle.directory.specs.Views.{View, passes, viewOf, Lent}
 use Rattle.directory.proofs.Flat.{items-length, flat, items-flat}
+use Rattle.directory.specs.Tenant.{forTenant, leading, tenantOf}
 use Rattle.directory.proofs.Views.{passes-ruled}
+use Rattle.directory.proofs.Tenant.{tenant-passes}
 use Rattle.own.specs.Table.{directory}
-use Rattle.own.specs.Own.{own, ownReach}
-use Rattle.own.specs.OwnRules.{OwnPasses, placesOf, ThreeTables, AveragePlaces}
+use Rattle.own.specs.Own.{own, ownReach, tenantReach}
+use Rattle.own.specs.OwnRules.{OwnPasses, countOf, TenantView, placesOf, ThreeTables, AveragePlaces}
 use Rattle.own.specs.Kinds.{firstOfKind, KindsInOrder}
 
 -- THE TESTS of paper 01's own
@@ -43,6 +45,27 @@ module _ (reach : Reach) (whole : reach ≡ ownReach) where
     holds = omega (arith, ap (λ (r : Reach). r .items) whole, items-length (flat directory), ap length (items-flat directory), directory-count);
     good = subst (λ (v : View). T (passes v)) (sym own-view) passed;
   }
+
+-- and as far as a tenant sees it
+pub tenant-count : leading forTenant directory ≡ 83
+unfolding leading directory
+tenant-count = refl
+
+module _ (reach : Reach) (first : reach ≡ tenantReach) where
+  pub tenant-seen : viewOf (flat directory) reach ≡ tenantOf own
+  tenant-seen =
+      ap (viewOf (flat directory)) first
+      ∙ ap (λ (its : List Item). record { seen = take (leading forTenant directory) its; most = own .most }) (items-flat directory)
+
+  pub tenant-lent : Lent (flat directory) reach
+  tenant-lent = record {
+    holds = omega (arith, ap (λ (r : Reach). r .items) first, tenant-count, items-length (flat directory), ap length (items-flat directory), directory-count);
+    good = subst (λ (v : View). T (passes v)) (sym tenant-seen) (tenant-passes own passed);
+  }
+
+pub tenant-view : TenantView
+unfolding leading countOf every directory
+tenant-view = record { count = refl; bytes = refl; last-byte = refl; last-word = refl; hidden = tt }
 
 pub three-tables : ThreeTables
 unfolding placesOf directory

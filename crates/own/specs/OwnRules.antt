@@ -1,13 +1,15 @@
 -- Paper 01, "The directory", with request 1: what is true of the 148 items, paper 01's 142 and request 1's six.
 use mathlib.Core.Path.{_≡_}
-use Prim.Native.Nat.{ℕ}
-use mathlib.Core.Bool.{cond}
+use Prim.Native.Nat.{ℕ, suc}
+use mathlib.Core.Bool.{Bool, cond}
 use mathlib.Core.List.{List, [], _∷_}
 use lib.Dec.{T, eqb}
-use lib.ListN.{length}
+use lib.ListN.{length, getD}
 use Rattle.directory.specs.declared.Item.{Item}
+use Rattle.directory.specs.Item.{none, inBytes}
 use Rattle.directory.specs.Quantity.{quantity, power, energyCount, low, high, wrap, plain, average, peak, posEa, negEa, posEr, negEr, minutes}
 use Rattle.directory.specs.Views.{passes}
+use Rattle.directory.specs.Tenant.{tenantOf, hides}
 use Rattle.own.specs.Table.{directory}
 use Rattle.own.specs.Own.{own}
 
@@ -31,6 +33,20 @@ energyPlaces e =
     placesOf (quantity low e) directory ∷
     placesOf (quantity high e) directory ∷
     []
+
+-- how many of some items pass a test
+unfoldable pub countOf : (Item → Bool) → List Item → ℕ
+countOf test [] = 0
+countOf test (it ∷ its) = cond (test it) (suc (countOf test its)) (countOf test its)
+
+-- STATEMENT: a tenant sees 83 of the items (request 3), 46 of the byte block and 37 words, the last of them at 0x37a and 0x103d; none of
+-- them shows a setup word, a wrap, an exact half or the identifier 0x1114
+pub record TenantView : Type 0 where
+  pub count : length (tenantOf own .seen) ≡ 83
+  pub bytes : countOf inBytes (tenantOf own .seen) ≡ 46
+  pub last-byte : getD (tenantOf own .seen) 45 none .start ≡ 0x37a
+  pub last-word : getD (tenantOf own .seen) 82 none .start ≡ 0x103d
+  pub hidden : T (hides own)
 
 -- STATEMENT: one energy stands in three tables
 pub record ThreeTables : Type 0 where
