@@ -17,7 +17,9 @@ use Rattle.directory.specs.Run.{runItems}
 use Rattle.directory.specs.Views.{View, passes}
 use Rattle.own.specs.Own.{own}
 use Rattle.own.proofs.Rules.{own-passes}
+use Rattle.directory.specs.Tenant.{tenantOf}
 use Rattle.directory.proofs.Views.{passes-room}
+use Rattle.directory.proofs.Tenant.{tenant-passes}
 use Rattle.modbus.specs.Frame.{addressOf, functionOf, wordNumber, silence, isRead, isWrite}
 use Rattle.modbus.specs.Read.{readIn}
 use Rattle.modbus.specs.Replies.{errorReply, echoReply}
@@ -31,7 +33,7 @@ use Rattle.store.specs.Writes.{writtenOf}
 use Rattle.board.specs.declared.Handled.{Handled}
 use Rattle.board.specs.declared.Reply.the-variants.{Sent}
 use Rattle.board.specs.Reads.{itemsSent, dataReply, readBytes, readReply}
-use Rattle.board.specs.Board.{Outcome, refusedOf, silentOf, sentOf, sentOrSilent, writeReply, obeyedIn, boardIn, boardOf}
+use Rattle.board.specs.Board.{Outcome, refusedOf, silentOf, sentOf, sentOrSilent, writeReply, obeyedIn, heardAs, toSecond, boardIn, boardOf}
 use Rattle.board.proofs.Sent.{length-items}
 
 -- ---- the bytes of a reply
@@ -82,18 +84,24 @@ short-reply frame bytes m b h =
     (λ n e. let same : length bytes ≡ n = cc in omega (arith, h, same))
 
 module _ (v : View) (good : T (passes v)) (m : Meter) (frame b : List ℕ) where
-  short-obeyed : Short (obeyedIn v m frame b)
-  short-obeyed =
-      short-either (not (isRead frame) && not (isWrite frame)) _ _ (short-reply frame (errorReply frame Function) m b (omega arith))
+  short-obeyed : (writes : Bool) → Short (obeyedIn v writes m frame b)
+  short-obeyed writes =
+      short-either (not (isRead frame) && not (writes && isWrite frame)) _ _ (short-reply frame (errorReply frame Function) m b (omega arith))
       (short-either (isRead frame) _ _ (short-reply frame (readReply v (shownOf m) frame) m b (read-long v good (shownOf m) frame))
       (short-reply frame (writeReply frame (writtenOf m frame .verdict)) (writtenOf m frame .meter) b (write-long frame (writtenOf m frame .verdict))))
 
+  short-heard : (address : ℕ) (writes : Bool) → Short (heardAs address v writes m frame b)
+  short-heard address writes = short-either (silence address frame) _ _ (short-silent m b) (short-obeyed writes)
+
+module _ (v : View) (good : T (passes v)) (m : Meter) (frame b : List ℕ) where
   pub board-short : Short (boardIn v m frame b)
   unfolding boardIn
   board-short =
       short-either (not (meterOk m)) _ _ (short-refused MeterOutOfLimits m b)
       (short-either (ltb (length b) 256) _ _ (short-refused BufferShort m b)
-      (short-either (silence (m .given .address) frame) _ _ (short-silent m b) short-obeyed))
+      (short-either (toSecond (m .given) frame) _ _
+      (short-heard (tenantOf v) (tenant-passes v good) m frame b (m .given .second) false)
+      (short-heard v good m frame b (m .given .address) true)))
 
 -- a program's buffer has room for the reply that `board::handle` answers with
 pub reply-long : (m : Meter) (frame b : List ℕ) {h : Handled} {n : ℕ} → h ≡ boardOf m frame b .handled → h .reply ≡ Sent n → n ≤ 256

@@ -1,8 +1,8 @@
 -- Paper 01, "What the meter does with a frame": its five steps in their order, first that applies, and address 0. Reads go by a view, a
--- directory and the most words of a read.
+-- directory and the most words of a read. Paper 02, request 3: frames to the second address, by the same rule.
 use mathlib.Core.Path.{_≡_}
 use Prim.Native.Nat.{ℕ}
-use mathlib.Core.Bool.{_&&_, not, cond}
+use mathlib.Core.Bool.{Bool, true, false, _&&_, not, cond}
 use mathlib.Core.List.{List, [], _∷_}
 use lib.Dec.{ltb, eqb}
 use lib.ListN.{length}
@@ -12,9 +12,11 @@ use Rattle.refusal.specs.declared.Refusal.the-variants.{MeterOutOfLimits, Buffe
 use Rattle.refusal.specs.declared.ErrorCode.the-variants.{Function}
 use Rattle.refusal.specs.Numbers.{refusalNumber, refusedBy}
 use Rattle.directory.specs.Views.{View}
+use Rattle.directory.specs.Tenant.{tenantOf}
 use Rattle.own.specs.Own.{own}
 use Rattle.modbus.specs.Frame.{addressOf, silence, isRead, isWrite}
 use Rattle.modbus.specs.Replies.{errorReply, echoReply}
+use Rattle.meter.specs.declared.given.Given.{Given}
 use Rattle.meter.specs.declared.Meter.{Meter}
 use Rattle.meter.specs.Meters.{meterOk}
 use Rattle.registers.specs.Shown.{shownOf}
@@ -63,15 +65,35 @@ abbrev pub writeReply : List ℕ → Verdict → List ℕ
 writeReply frame (Wrong code) = errorReply frame code
 writeReply frame Good = echoReply frame
 
--- what is done with a frame that the meter heeds: steps 3 to 5
-abbrev pub obeyedIn : View → Meter → List ℕ → List ℕ → Outcome
-obeyedIn v m frame buffer =
-    -- 3. Function neither 0x03 nor 0x10: error 01
-    cond (not (isRead frame) && not (isWrite frame)) (sentOrSilent frame (errorReply frame Function) m buffer)
+-- what is done with a frame that the meter heeds, by a view and whether it may write: steps 3 to 5
+abbrev pub obeyedIn : View → Bool → Meter → List ℕ → List ℕ → Outcome
+obeyedIn v writes m frame buffer =
+    -- 3. Function neither 0x03 nor, where it may write, 0x10: error 01
+    cond (not (isRead frame) && not (writes && isWrite frame)) (sentOrSilent frame (errorReply frame Function) m buffer)
     -- 4. 0x03: error 03 or 02, else data
     (cond (isRead frame) (sentOrSilent frame (readReply v (shownOf m) frame) m buffer)
     -- 5. 0x10: error 03 or 02, else the group is stored and echoed. Only a stored write alters the record
     (sentOrSilent frame (writeReply frame (writtenOf m frame .verdict)) (writtenOf m frame .meter) buffer))
+
+-- steps 2 to 5, by an address, a view and whether it may write
+abbrev pub heardAs : ℕ → View → Bool → Meter → List ℕ → List ℕ → Outcome
+heardAs address v writes m frame buffer =
+    -- 2. Silence
+    cond (silence address frame) (silentOf m buffer)
+    -- 3. to 5.
+    (obeyedIn v writes m frame buffer)
+
+-- a frame to the second address (request 3): there is one, and the frame names it
+abbrev pub toSecond : Given → List ℕ → Bool
+toSecond g frame = not (eqb (g .second) 0) && eqb (addressOf frame) (g .second)
+
+-- the address that it is judged by, a tenant's or not
+abbrev pub addressFor : Given → Bool → ℕ
+addressFor g tenant = cond tenant (g .second) (g .address)
+
+-- and the view
+abbrev pub viewFor : View → Bool → View
+viewFor v tenant = cond tenant (tenantOf v) v
 
 -- what the meter does with a frame, over a view: the first that applies
 unfoldable pub boardIn : View → Meter → List ℕ → List ℕ → Outcome
@@ -79,10 +101,10 @@ boardIn v m frame buffer =
     -- 1. Record out of limits: refusal 1. Reply buffer under 256 bytes: refusal 2
     cond (not (meterOk m)) (refusedOf MeterOutOfLimits m buffer)
     (cond (ltb (length buffer) 256) (refusedOf BufferShort m buffer)
-    -- 2. Silence
-    (cond (silence (m .given .address) frame) (silentOf m buffer)
-    -- 3. to 5.
-    (obeyedIn v m frame buffer)))
+    -- 2. to 5. To the second address: with that address, over a tenant's view, and it may not write
+    (cond (toSecond (m .given) frame) (heardAs (m .given .second) (tenantOf v) false m frame buffer)
+    -- else with the own address, over the whole view, and it may write
+    (heardAs (m .given .address) v true m frame buffer)))
 
 -- what a meter with paper 01's own directory does with it
 abbrev pub boardOf : Meter → List ℕ → List ℕ → Outcome

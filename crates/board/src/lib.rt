@@ -2,13 +2,13 @@
 mod reads;
 
 ghost use mathlib.Core.Path.{_≡_};
-ghost use mathlib.Core.Bool.{true, false};
+ghost use mathlib.Core.Bool.{true, false, not};
 ghost use Prim.Native.Nat.{_≤_};
 ghost use lib.ListN.{length};
 ghost use Rattle.modbus.specs.Frame.{silence, isWrite};
 ghost use Rattle.meter.specs.Meters.{meterOk};
 ghost use Rattle.own.specs.Own.{own};
-ghost use Rattle.board.specs.Board.{Allowed, obeyedIn, boardOf};
+ghost use Rattle.board.specs.Board.{Allowed, obeyedIn, toSecond, addressFor, viewFor, boardOf};
 use refusal::ErrorCode;
 use store::Verdict;
 
@@ -55,10 +55,32 @@ pub fn handle(meter: Meter, frame: &[u8], buffer: &mut [u8]) -> Handled
     if buffer.len() < modbus::FRAME_MOST {
         return hand_back(meter, Reply::Refused(Refusal::BufferShort));
     }
-    if modbus::silence(meter.given.address, frame) {
+    let tenant = to_second(meter.given, frame);
+    if modbus::silence(address_for(meter.given, tenant), frame) {
         return hand_back(meter, Reply::Silent);
     }
-    obey(meter, frame, buffer)
+    obey(meter, tenant, frame, buffer)
+}
+
+// Whether a frame is for the second address, a tenant's (paper 02, request 3).
+fn to_second(given: Given, frame: &[u8]) -> bool
+    ensures { λ r. ⌜ r ≡ toSecond given (now (frame .entry)) ⌝ }
+{
+    if frame.len() == 0 {
+        return false;
+    }
+    (given.second != Given::NO_SECOND) & (frame[0] == given.second)
+}
+
+// The address that a tenant's frame, or any other, is judged by.
+fn address_for(given: Given, tenant: bool) -> u8
+    ensures { λ r. ⌜ r ≡ addressFor given tenant ⌝ }
+{
+    if tenant {
+        given.second
+    } else {
+        given.address
+    }
 }
 
 fn hand_back(meter: Meter, reply: Reply) -> Handled
@@ -67,21 +89,22 @@ fn hand_back(meter: Meter, reply: Reply) -> Handled
     Handled { reply, meter }
 }
 
-// Carries out a frame that the meter heeds. Of the frames for all meters only a write has any effect.
-fn obey(meter: Meter, frame: &[u8], buffer: &mut [u8]) -> Handled
+// Carries out a frame that the meter heeds. Of the frames for all meters only a write has any effect; a tenant's write is a function
+// that it does not know.
+fn obey(meter: Meter, tenant: bool, frame: &[u8], buffer: &mut [u8]) -> Handled
     requires { ⌜ meterOk meter ≡ true ⌝ }
-    requires { ⌜ silence (meter .given .address) (now frame) ≡ false ⌝ }
+    requires { ⌜ silence (addressFor (meter .given) tenant) (now frame) ≡ false ⌝ }
     requires { ⌜ 256 ≤ length (now buffer) ⌝ }
-    ensures { λ r. ⌜ Allowed (obeyedIn own meter (now (frame .entry)) (now (buffer .entry))) r (now (buffer .exit)) ⌝ }
+    ensures { λ r. ⌜ Allowed (obeyedIn (viewFor own tenant) (not tenant) meter (now (frame .entry)) (now (buffer .entry))) r (now (buffer .exit)) ⌝ }
 {
-    if frame[1] == modbus::WRITE_MULTIPLE_REGISTERS {
+    if !tenant & (frame[1] == modbus::WRITE_MULTIPLE_REGISTERS) {
         return write(meter, frame, buffer);
     }
     if frame[0] == modbus::BROADCAST {
         return hand_back(meter, Reply::Silent);
     }
     let length = if frame[1] == modbus::READ_HOLDING_REGISTERS {
-        reads::read(meter, frame, buffer)
+        reads::read(tenant, meter, frame, buffer)
     } else {
         modbus::put_error(frame, ErrorCode::Function, buffer)
     };
@@ -96,7 +119,7 @@ fn write(meter: Meter, frame: &[u8], buffer: &mut [u8]) -> Handled
     requires { ⌜ silence (meter .given .address) (now frame) ≡ false ⌝ }
     requires { ⌜ isWrite (now frame) ≡ true ⌝ }
     requires { ⌜ 256 ≤ length (now buffer) ⌝ }
-    ensures { λ r. ⌜ Allowed (obeyedIn own meter (now (frame .entry)) (now (buffer .entry))) r (now (buffer .exit)) ⌝ }
+    ensures { λ r. ⌜ Allowed (obeyedIn own true meter (now (frame .entry)) (now (buffer .entry))) r (now (buffer .exit)) ⌝ }
 {
     let written = store::write(meter, frame);
     let next = written.meter;

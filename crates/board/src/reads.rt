@@ -1,6 +1,6 @@
 // The reply to a read (paper 01, "What the meter does with a frame", step 4).
 ghost use mathlib.Core.Path.{_≡_};
-ghost use mathlib.Core.Bool.{true};
+ghost use mathlib.Core.Bool.{true, cond};
 ghost use Prim.Native.Nat.{_+_, _*_, _≤_, _<_};
 ghost use lib.Dec.{T};
 ghost use lib.ListN.{length};
@@ -9,25 +9,37 @@ ghost use Rattle.directory.specs.Item.{items};
 ghost use Rattle.directory.specs.Order.{every, narrow};
 ghost use Rattle.directory.specs.Run.{wordsOf};
 ghost use Rattle.directory.specs.Views.{viewOf, Lent};
-ghost use Rattle.own.specs.Own.{own};
+ghost use Rattle.own.specs.Own.{own, ownReach, tenantReach};
 ghost use Rattle.modbus.specs.Frame.{functionOf, wordNumber};
 ghost use Rattle.meter.specs.Meters.{meterOk};
 ghost use Rattle.registers.specs.Shown.{shownOf};
 ghost use Rattle.board.specs.Reads.{itemsSent, dataReply, readReply};
+ghost use Rattle.board.specs.Board.{viewFor};
 use directory::Reach;
 use directory::Span;
 use meter::Meter;
 use own::table;
 
-// Puts the reply at the start of the buffer, and answers its length.
-pub(crate) fn read(m: Meter, frame: &[u8], buffer: &mut [u8]) -> usize
+// Puts the reply to a tenant, or to any other, at the start of the buffer, and answers its length.
+pub(crate) fn read(tenant: bool, m: Meter, frame: &[u8], buffer: &mut [u8]) -> usize
     requires { ⌜ meterOk m ≡ true ⌝ }
     requires { ⌜ (2 ≤ length (now frame)) × (functionOf (now frame) < 0x80) ⌝ }
     requires { ⌜ 256 ≤ length (now buffer) ⌝ }
-    ensures { λ r. ⌜ r ≡ length (readReply own (shownOf m) (now (frame .entry))) ⌝ }
-    ensures { λ _. ⌜ now (buffer .exit) ≡ sets (now (buffer .entry)) 0 (readReply own (shownOf m) (now (frame .entry))) ⌝ }
+    ensures { λ r. ⌜ r ≡ length (readReply (viewFor own tenant) (shownOf m) (now (frame .entry))) ⌝ }
+    ensures { λ _. ⌜ now (buffer .exit) ≡ sets (now (buffer .entry)) 0 (readReply (viewFor own tenant) (shownOf m) (now (frame .entry))) ⌝ }
 {
-    with_table(&table::TABLE, own::reach(), m, frame, buffer)
+    with_table(&table::TABLE, reach_for(tenant), m, frame, buffer)
+}
+
+// How much of the table a tenant, or any other, may read.
+fn reach_for(tenant: bool) -> Reach
+    ensures { λ r. ⌜ r ≡ cond tenant tenantReach ownReach ⌝ }
+{
+    if tenant {
+        own::tenant_reach()
+    } else {
+        own::reach()
+    }
 }
 
 // The same with the table lent: each use of the constant's name copies the whole table onto the stack.

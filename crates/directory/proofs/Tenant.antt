@@ -243,14 +243,14 @@ before-tenant {its} asc i k l inside h = by (eqb k i) refl
     by true e = rw (eqb-true k i e) h
     by false e = ended (apart asc k i (omega (arith, l, eqb-false k i e)) inside)
 
+pub tenant-long : (v : View) → length (tenantOf v .seen) ≡ leading forTenant (v .seen)
+tenant-long v = length-take-le (leading forTenant (v .seen)) (v .seen) (leading-most forTenant (v .seen))
+
 pub tenant-sees : (v : View) → T (passes v) → TenantSees v
 tenant-sees v good = record {
   just = λ i l. (
-    λ h. leading-pass forTenant (v .seen) i (omega (arith, h, long)),
-    λ h. omega (arith, pass-leading forTenant (v .seen) i l (λ k b. before-tenant (ruled-ascends (v .seen) (passes-ruled v good)) i k b l h), long),
+    λ h. leading-pass forTenant (v .seen) i (omega (arith, h, tenant-long v)),
+    λ h. omega (arith, pass-leading forTenant (v .seen) i l (λ k b. before-tenant (ruled-ascends (v .seen) (passes-ruled v good)) i k b l h), tenant-long v),
   );
-  same = λ i l. getD-take (leading forTenant (v .seen)) (v .seen) i none (omega (arith, l, long));
+  same = λ i l. getD-take (leading forTenant (v .seen)) (v .seen) i none (omega (arith, l, tenant-long v));
 }
-  where
-    long : length (tenantOf v .seen) ≡ leading forTenant (v .seen)
-    long = length-take-le (leading forTenant (v .seen)) (v .seen) (leading-most forTenant (v .seen))

@@ -5,7 +5,7 @@ use mathlib.Core.Bool.{Bool, true, false, _&&_, cond, and-true, not, false≢tru
 use Prim.Native.Nat.{ℕ, _+_, _%_, zero, suc, zero-le}
 use native.Mathlib.Omega.{arith}
 use lib.Dec.{leb, eqb}
-use borrow.Author.Tests.{le-leb, ne-eqb, eqb-false, not-true}
+use borrow.Author.Tests.{le-leb, eq-eqb, ne-eqb, eqb-true, eqb-false, not-true, not-false}
 use Rattle.refusal.specs.declared.Refusal.{Refusal}
 use Rattle.refusal.specs.declared.Refusal.the-variants.{MeterOutOfLimits, RatioOutOfLimits, OwnAddressZero, SampleOutOfLimits, EnergyPastTop}
 use Rattle.refusal.specs.Numbers.{refusedBy}
@@ -30,7 +30,7 @@ use Rattle.meter.specs.declared.Meter.{Meter}
 use Rattle.meter.specs.Samples.{inForce, sampleOk, noSample}
 use Rattle.meter.specs.Energies.{energyOk, energiesOk, countersOk, plusOf, withPower, withPowers, withinTop, countersWithinTop}
 use Rattle.meter.specs.Groups.{setupOk, codeOf}
-use Rattle.meter.specs.Meters.{meterT, meterOk, blankOf, answerWith, answerTold, newOf, withAverage, withSetup, setUpOf}
+use Rattle.meter.specs.Meters.{meterT, givenOk, meterOk, blankOf, answerWith, answerTold, newOf, withAverage, withSetup, setUpOf}
 use Rattle.meter.specs.After.{nextOf, meterWithinTop, afterOf}
 use Rattle.meter.specs.Accepts.{NewAnswers, SampleAnswers, other, SetupIdle, CodeCounts}
 use Rattle.meter.proofs.Parts.{meter-parts, groups-within, p-most}
@@ -128,88 +128,116 @@ trues : (b : Bool) → (b && true && true && true && true) ≡ b
 trues true = refl
 trues false = refl
 
-blank-within : (g : Given) → meterOk (blankOf g) ≡ (leb 1 (g .address) && ratiosOk (g .ratios))
+blank-within : (g : Given) → meterOk (blankOf g) ≡ givenOk g
 unfolding meterOk groupOk wordOk
-blank-within g = rw (blank-sample (tOf (g .ratios)), blank-average (tOf (g .ratios)) 0) (trues (leb 1 (g .address) && ratiosOk (g .ratios)))
+blank-within g = rw (blank-sample (tOf (g .ratios)), blank-average (tOf (g .ratios)) 0) (trues (givenOk g))
 
--- what follows from the two tests of a new meter, in their order
-abbrev made : Bool → Bool → Meter → Answered
-made x y m =
+-- what follows from the three tests of a new meter, in their order
+abbrev made : Bool → Bool → Bool → Meter → Answered
+made x y z m =
     cond (not x) (answerWith (Refused RatioOutOfLimits) m)
     (cond y (answerWith (Refused OwnAddressZero) m)
-    (answerWith Accepted m))
+    (cond z (answerWith (Refused MeterOutOfLimits) m)
+    (answerWith Accepted m)))
 
-module _ (g : Given) where
-  new-picked : (x y : Bool) (m : Meter) → made x y m .answer ≡ firstOf RatioOutOfLimits OwnAddressZero EnergyPastTop x (not y) true
-  new-picked true true m = refl
-  new-picked true false m = refl
-  new-picked false y m = refl
+new-picked : (x y z : Bool) (m : Meter) → made x y z m .answer ≡ firstOf RatioOutOfLimits OwnAddressZero MeterOutOfLimits x (not y) (not z)
+new-picked true true z m = refl
+new-picked true false true m = refl
+new-picked true false false m = refl
+new-picked false y z m = refl
 
-  new-same : (x y : Bool) (m : Meter) → made x y m .meter ≡ m
-  new-same true true m = refl
-  new-same true false m = refl
-  new-same false y m = refl
-
-  new-answer : newOf g .answer ≡ firstOf RatioOutOfLimits OwnAddressZero EnergyPastTop (ratiosOk (g .ratios)) (not (eqb (g .address) 0)) true
-  unfolding newOf
-  new-answer = new-picked (ratiosOk (g .ratios)) (eqb (g .address) 0) (blankOf g)
-
-  pub new-blank : newOf g .meter ≡ blankOf g
-  unfolding newOf
-  new-blank = new-same (ratiosOk (g .ratios)) (eqb (g .address) 0) (blankOf g)
+new-same : (x y z : Bool) (m : Meter) → made x y z m .meter ≡ m
+new-same true true z m = refl
+new-same true false true m = refl
+new-same true false false m = refl
+new-same false y z m = refl
 
 -- an address is 0, or at least 1
 zero-no : (a : ℕ) → not (eqb a 0) ≡ leb 1 a
 zero-no zero = refl
 zero-no (suc n) = rw (ne-eqb (suc n) 0 (omega arith), le-leb 1 (suc n) (omega arith)) refl
 
-zero-is : (a : ℕ) → (not (eqb a 0) ≡ false) ↔ (a ≡ 0)
-zero-is zero = (λ h. refl, λ h. refl)
-zero-is (suc n) = (λ h. absurd (false≢true (sym h ∙ zero-no (suc n) ∙ le-leb 1 (suc n) (omega arith))), λ h. absurd (omega arith))
+-- two numbers that a test finds equal, and that it does not
+same-is : (a b : ℕ) → (not (eqb a b) ≡ false) ↔ (a ≡ b)
+same-is a b = (λ h. eqb-true a b (not-false _ h), λ h. ap not (eq-eqb a b h))
 
-four : (g : Given) → (newOf g .answer ≡ Refused OwnAddressZero) ↔ ((ratiosOk (g .ratios) ≡ true) × (g .address ≡ 0))
-four g =
-    let f = second-fails _ _ _ refl refl refl (ratiosOk (g .ratios)) (not (eqb (g .address) 0)) true in
-    rw (new-answer g) (λ h. (f .0 h .0, zero-is (g .address) .0 (f .0 h .1)), λ h. f .1 (h .0, zero-is (g .address) .1 (h .1)))
+same-no : (a b : ℕ) → (not (eqb a b) ≡ true) ↔ (a ≡ b → ⊥)
+same-no a b = (λ h. eqb-false a b (not-true _ h), λ h. ap not (ne-eqb a b h))
 
-new-only : (g : Given) (n : ℕ) → answerTold (newOf g .answer) ≡ refusedBy n → (n ≡ 3) ⊎ (n ≡ 4)
-new-only g n h = by (only-these _ _ _ (ratiosOk (g .ratios)) (not (eqb (g .address) 0)) true n (rw (new-answer g) at h))
-  where
-    by : (n ≡ 3) ⊎ (n ≡ 4) ⊎ ((true ≡ false) × (n ≡ 6)) → (n ≡ 3) ⊎ (n ≡ 4)
-    by (inl e) = inl e
-    by (inr (inl e)) = inr e
-    by (inr (inr e)) = absurd (false≢true (sym (e .0)))
+module _ (g : Given) where
+  -- the three tests, passed
+  abbrev ratios : Bool
+  ratios = ratiosOk (g .ratios)
 
--- no test fails
-new-made : (g : Given) → (newOf g .answer ≡ Accepted) ↔ ((ratiosOk (g .ratios) ≡ true) × (not (eqb (g .address) 0) ≡ true) × (true ≡ true))
-new-made g = rw (new-answer g) (none-fails RatioOutOfLimits OwnAddressZero EnergyPastTop (ratiosOk (g .ratios)) (not (eqb (g .address) 0)) true)
+  abbrev some : Bool
+  some = not (eqb (g .address) 0)
 
-new-accepted : (g : Given) → (newOf g .answer ≡ Accepted) ↔ ((ratiosOk (g .ratios) ≡ true) × (g .address ≡ 0 → ⊥))
-new-accepted g = (
-  λ h. let t = new-made g .0 h in (t .0, eqb-false (g .address) 0 (not-true _ (t .1))),
-  λ h. new-made g .1 (h .0, ap not (ne-eqb (g .address) 0 (h .1)), refl),
-)
+  abbrev other-one : Bool
+  other-one = not (eqb (g .second) (g .address))
 
-new-within : (g : Given) → (newOf g .answer ≡ Accepted) ↔ (meterOk (blankOf g) ≡ true)
-new-within g =
-    rw (blank-within g) (
-      λ h. let t = new-made g .0 h in (λ i. (sym (zero-no (g .address)) ∙ t .1) i && t .0 i),
-      λ h. let t = and-eq-true-iff (leb 1 (g .address)) (ratiosOk (g .ratios)) .0 h in new-made g .1 (t .1, zero-no (g .address) ∙ t .0, refl),
-    )
+  new-answer : newOf g .answer ≡ firstOf RatioOutOfLimits OwnAddressZero MeterOutOfLimits ratios some other-one
+  unfolding newOf
+  new-answer = new-picked ratios (eqb (g .address) 0) (eqb (g .second) (g .address)) (blankOf g)
 
--- an accepted meter is within limits
-pub made-within : (g : Given) → newOf g .answer ≡ Accepted → meterOk (newOf g .meter) ≡ true
-made-within g made = ap meterOk (new-blank g) ∙ new-within g .0 made
+  pub new-blank : newOf g .meter ≡ blankOf g
+  unfolding newOf
+  new-blank = new-same ratios (eqb (g .address) 0) (eqb (g .second) (g .address)) (blankOf g)
 
-pub new-answers : (g : Given) → NewAnswers g
-new-answers g = record {
-  row-3 = by-number (newOf g .answer) RatioOutOfLimits (rw (new-answer g) (first-fails _ _ _ refl refl refl (ratiosOk (g .ratios)) (not (eqb (g .address) 0)) true));
-  row-4 = by-number (newOf g .answer) OwnAddressZero (four g);
-  only = new-only g;
-  accepted = new-accepted g;
-  blank = new-blank g;
-  within = new-within g;
-}
+  four : (newOf g .answer ≡ Refused OwnAddressZero) ↔ ((ratios ≡ true) × (g .address ≡ 0))
+  four =
+      let f = second-fails _ _ _ refl refl refl ratios some other-one in
+      let z = same-is (g .address) 0 in
+      rw new-answer (λ h. (f .0 h .0, z .0 (f .0 h .1)), λ h. f .1 (h .0, z .1 (h .1)))
+
+  one : (newOf g .answer ≡ Refused MeterOutOfLimits) ↔ ((ratios ≡ true) × (g .address ≡ 0 → ⊥) × (g .second ≡ g .address))
+  one =
+      let f = third-fails _ _ _ refl refl refl ratios some other-one in
+      let z = same-no (g .address) 0 in
+      let e = same-is (g .second) (g .address) in
+      rw new-answer (λ h. (f .0 h .0, z .0 (f .0 h .1), e .0 (f .0 h .2)), λ h. f .1 (h .0, z .1 (h .1), e .1 (h .2)))
+
+  new-only : (n : ℕ) → answerTold (newOf g .answer) ≡ refusedBy n → (n ≡ 3) ⊎ (n ≡ 4) ⊎ (n ≡ 1)
+  new-only n h = by (only-these _ _ _ ratios some other-one n (rw new-answer at h))
+    where
+      by : {c : Bool} → (n ≡ 3) ⊎ (n ≡ 4) ⊎ ((c ≡ false) × (n ≡ 1)) → (n ≡ 3) ⊎ (n ≡ 4) ⊎ (n ≡ 1)
+      by (inl e) = inl e
+      by (inr (inl e)) = inr (inl e)
+      by (inr (inr e)) = inr (inr (e .1))
+
+  -- no test fails
+  new-made : (newOf g .answer ≡ Accepted) ↔ ((ratios ≡ true) × (some ≡ true) × (other-one ≡ true))
+  new-made = rw new-answer (none-fails RatioOutOfLimits OwnAddressZero MeterOutOfLimits ratios some other-one)
+
+  new-accepted : (newOf g .answer ≡ Accepted) ↔ ((ratios ≡ true) × (g .address ≡ 0 → ⊥) × (g .second ≡ g .address → ⊥))
+  new-accepted =
+      let z = same-no (g .address) 0 in
+      let e = same-no (g .second) (g .address) in
+      (λ h. let t = new-made .0 h in (t .0, z .0 (t .1), e .0 (t .2)), λ h. new-made .1 (h .0, z .1 (h .1), e .1 (h .2)))
+
+  new-within : (newOf g .answer ≡ Accepted) ↔ (meterOk (blankOf g) ≡ true)
+  new-within =
+      rw (blank-within g) (
+        λ h. let t = new-made .0 h in (λ i. (sym (zero-no (g .address)) ∙ t .1) i && t .2 i && t .0 i),
+        λ h.
+        let t = and-eq-true-iff (leb 1 (g .address) && other-one) ratios .0 h in
+        let u = and-eq-true-iff (leb 1 (g .address)) other-one .0 (t .0) in
+        new-made .1 (t .1, zero-no (g .address) ∙ u .0, u .1),
+      )
+
+  -- an accepted meter is within limits
+  pub made-within : newOf g .answer ≡ Accepted → meterOk (newOf g .meter) ≡ true
+  made-within made = ap meterOk new-blank ∙ new-within .0 made
+
+  pub new-answers : NewAnswers g
+  new-answers = record {
+    row-3 = by-number (newOf g .answer) RatioOutOfLimits (rw new-answer (first-fails _ _ _ refl refl refl ratios some other-one));
+    row-4 = by-number (newOf g .answer) OwnAddressZero four;
+    row-1 = by-number (newOf g .answer) MeterOutOfLimits one;
+    only = new-only;
+    accepted = new-accepted;
+    blank = new-blank;
+    within = new-within;
+  }
 
 -- ---- setup words
 

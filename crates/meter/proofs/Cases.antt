@@ -22,9 +22,13 @@ module _ (given : Given) where
   unfolding newOf
   new-4 r a = rw (r, a) refl
 
-  pub new-made : ratiosOk (given .ratios) ≡ true → eqb (given .address) 0 ≡ false → newOf given ≡ answerWith Accepted (blankOf given)
+  pub new-1 : ratiosOk (given .ratios) ≡ true → eqb (given .address) 0 ≡ false → eqb (given .second) (given .address) ≡ true → newOf given ≡ answerWith (Refused MeterOutOfLimits) (blankOf given)
   unfolding newOf
-  new-made r a = rw (r, a) refl
+  new-1 r a s = rw (r, a, s) refl
+
+  pub new-made : ratiosOk (given .ratios) ≡ true → eqb (given .address) 0 ≡ false → eqb (given .second) (given .address) ≡ false → newOf given ≡ answerWith Accepted (blankOf given)
+  unfolding newOf
+  new-made r a s = rw (r, a, s) refl
 
 -- what follows from the three tests of a sample, in their order: m is the meter, n the next
 abbrev pub chosen : Bool → Bool → Bool → Meter → Meter → Answered

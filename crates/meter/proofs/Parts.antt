@@ -1,12 +1,12 @@
 -- What is known of a sample, an energy and a record that are within limits.
 use mathlib.Core.Path.{_≡_, refl, ap}
-use mathlib.Core.Bool.{Bool, true, false, _&&_, _||_, false≢true, and-eq-true-iff}
+use mathlib.Core.Bool.{Bool, true, false, _&&_, _||_, not, false≢true, and-eq-true-iff}
 use Prim.Native.Nat.{ℕ, _+_, _/_, _%_, _≤_}
 use native.Mathlib.Nat.{le-trans}
 use native.Mathlib.Omega.{arith}
 use lib.Dec.{leb, eqb}
 use lib.IntN.{natAbs}
-use borrow.Author.Tests.{leb-true, eqb-true}
+use borrow.Author.Tests.{leb-true, eqb-true, eqb-false, not-true}
 use Rattle.ratio.specs.Ratios.{ktaOk, ktvOk, ratiosOk}
 use Rattle.ratio.specs.Powers.{powerLimit}
 use Rattle.ratio.proofs.Powers.{power-laws}
@@ -131,11 +131,19 @@ module _ (m : Meter) (h : meterOk m ≡ true) where
 
 -- what it was given
 module _ (m : Meter) (h : meterOk m ≡ true) where
+  named : (leb 1 (m .given .address) ≡ true) × (not (eqb (m .given .second) (m .given .address)) ≡ true)
+  named =
+      and-eq-true-iff (leb 1 (m .given .address)) (not (eqb (m .given .second) (m .given .address))) .0
+      (and-eq-true-iff (leb 1 (m .given .address) && not (eqb (m .given .second) (m .given .address))) (ratiosOk (m .given .ratios)) .0 (meter-parts m h .given) .0)
+
   pub own-address : 1 ≤ m .given .address
-  own-address = leb-true _ _ (and-eq-true-iff (leb 1 (m .given .address)) (ratiosOk (m .given .ratios)) .0 (meter-parts m h .given) .0)
+  own-address = leb-true _ _ (named .0)
 
   pub own-ratios : ratiosOk (m .given .ratios) ≡ true
-  own-ratios = and-eq-true-iff (leb 1 (m .given .address)) (ratiosOk (m .given .ratios)) .0 (meter-parts m h .given) .1
+  own-ratios = and-eq-true-iff (leb 1 (m .given .address) && not (eqb (m .given .second) (m .given .address))) (ratiosOk (m .given .ratios)) .0 (meter-parts m h .given) .1
+
+  pub other-address : m .given .second ≡ m .given .address → ⊥
+  other-address = eqb-false _ _ (not-true _ (named .1))
 
   pub ratio-parts : (ktaOk (m .given .ratios .kta) ≡ true) × (ktvOk (m .given .ratios .ktv) ≡ true)
   ratio-parts = and-eq-true-iff (ktaOk (m .given .ratios .kta)) (ktvOk (m .given .ratios .ktv)) .0 own-ratios

@@ -1,4 +1,4 @@
--- Paper 01, "Refusal numbers": 3 and 4 of a new meter; 1, 5 and 6 of a sample; each given exactly when its row says. And what setup words
+-- Paper 01, "Refusal numbers": 3, 4 and 1 of a new meter; 1, 5 and 6 of a sample; each given exactly when its row says. And what setup words
 -- have to do with samples: nothing, but for 0x200a and request 1's figures.
 use mathlib.Core.Path.{_≡_}
 use mathlib.Core.Logic.{_↔_, _⊎_}
@@ -27,13 +27,15 @@ module _ (g : Given) where
   abbrev NewGives : List ℕ → Type 0
   NewGives numbers = answerTold (newOf g .answer) ≡ numbers
 
-  -- STATEMENT: a new meter is refused with 3 and with 4 exactly as their rows say, with no other number, and else accepted; the meter
+  -- STATEMENT: a new meter is refused with 3, with 4 and with 1 exactly as their rows say, with no other number, and else accepted; the meter
   -- handed back is the blank one of what was given, and within limits exactly when it is accepted
   pub record NewAnswers : Type 0 where
     pub row-3 : NewGives (refusedBy 3) ↔ (ratiosOk (g .ratios) ≡ false)
     pub row-4 : NewGives (refusedBy 4) ↔ ((ratiosOk (g .ratios) ≡ true) × (g .address ≡ 0))
-    pub only : (n : ℕ) → NewGives (refusedBy n) → (n ≡ 3) ⊎ (n ≡ 4)
-    pub accepted : (newOf g .answer ≡ Accepted) ↔ ((ratiosOk (g .ratios) ≡ true) × (g .address ≡ 0 → ⊥))
+    pub row-1 : NewGives (refusedBy 1) ↔ ((ratiosOk (g .ratios) ≡ true) × (g .address ≡ 0 → ⊥) × (g .second ≡ g .address))
+    pub only : (n : ℕ) → NewGives (refusedBy n) → (n ≡ 3) ⊎ (n ≡ 4) ⊎ (n ≡ 1)
+    pub accepted :
+        (newOf g .answer ≡ Accepted) ↔ ((ratiosOk (g .ratios) ≡ true) × (g .address ≡ 0 → ⊥) × (g .second ≡ g .address → ⊥))
     pub blank : newOf g .meter ≡ blankOf g
     pub within : (newOf g .answer ≡ Accepted) ↔ (meterOk (blankOf g) ≡ true)
 

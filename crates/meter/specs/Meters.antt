@@ -1,10 +1,11 @@
--- Paper 01, "The meter's record": the limits of a record, and a new meter. Paper 02, request 1: the record gains the figures of `average`.
+-- Paper 01, "The meter's record": the limits of a record, and a new meter. Paper 02: the record gains
+-- the figures of `average` (request 1) and a second address (request 3).
 use Prim.Native.Nat.{ℕ}
 use mathlib.Core.List.{List, [], _∷_}
 use mathlib.Core.Bool.{Bool, _&&_, not, cond}
 use lib.Dec.{leb, eqb}
 use lib.ListN.{getD}
-use Rattle.refusal.specs.declared.Refusal.the-variants.{RatioOutOfLimits, OwnAddressZero}
+use Rattle.refusal.specs.declared.Refusal.the-variants.{MeterOutOfLimits, RatioOutOfLimits, OwnAddressZero}
 use Rattle.refusal.specs.Numbers.{refusalNumber, refusedBy}
 use Rattle.ratio.specs.declared.Ratios.{Ratios}
 use Rattle.ratio.specs.Ratios.{ratiosOk, tOf}
@@ -27,11 +28,11 @@ use Rattle.meter.specs.Groups.{setupOk, noSetup, codeOf}
 abbrev pub meterT : Meter → ℕ
 meterT m = tOf (m .given .ratios)
 
--- own address 1 to 255 (it is a byte), and ratios
+-- own address 1 to 255 (it is a byte); a second, 0 for none, that is not equal to it (request 3); ratios
 abbrev pub givenOk : Given → Bool
-givenOk g = leb 1 (g .address) && ratiosOk (g .ratios)
+givenOk g = leb 1 (g .address) && not (eqb (g .second) (g .address)) && ratiosOk (g .ratios)
 
--- a record is within limits: own address and ratios, four energies, the latest sample at the record's T, setup groups, and
+-- a record is within limits: addresses and ratios, four energies, the latest sample at the record's T, setup groups, and
 -- request 1's figures at that T and in windows of the record's code
 unfoldable pub meterOk : Meter → Bool
 meterOk m =
@@ -41,9 +42,9 @@ meterOk m =
     averageOk (meterT m) (codeOf (m .setup)) (m .average) &&
     setupOk (m .setup)
 
--- what a new meter is given
+-- what a new meter is given that names no second address
 abbrev pub givenOf : ℕ → Ratios → Given
-givenOf address ratios = record { address = address; ratios = ratios }
+givenOf address ratios = record { address = address; second = 0; ratios = ratios }
 
 -- counters and remainders 0, setup words 0, sample 0 except sequence 1; request 1's figures 0
 abbrev pub blankOf : Given → Meter
@@ -107,4 +108,6 @@ newOf given =
     cond (not (ratiosOk (given .ratios))) (answerWith (Refused RatioOutOfLimits) (blankOf given))
     -- 4. own address 0
     (cond (eqb (given .address) 0) (answerWith (Refused OwnAddressZero) (blankOf given))
-    (answerWith Accepted (blankOf given)))
+    -- 1. equal addresses (request 3)
+    (cond (eqb (given .second) (given .address)) (answerWith (Refused MeterOutOfLimits) (blankOf given))
+    (answerWith Accepted (blankOf given))))

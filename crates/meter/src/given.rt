@@ -1,4 +1,4 @@
-// What a meter is given when it is made (paper 01, "The meter's record").
+// What a meter is given when it is made (paper 01, "The meter's record"; a second address, paper 02, request 3).
 ghost use mathlib.Core.Path.{_≡_};
 ghost use Rattle.meter.specs.Meters.{givenOk};
 use crate::Meter;
@@ -7,13 +7,20 @@ use ratio::Ratios;
 pub struct Given {
     // Its own address, 1 to 255.
     pub address: u8,
+    // The address that a tenant reads it by, or NO_SECOND.
+    pub second: u8,
     pub ratios: Ratios,
 }
 
 impl Given {
+    // The second address of a meter that has none.
+    pub const NO_SECOND: u8 = 0;
+
     pub(crate) fn within(self) -> bool
         ensures { λ r. ⌜ r ≡ givenOk self ⌝ }
     {
-        (Meter::ADDRESS_LEAST <= self.address) & self.ratios.within()
+        (Meter::ADDRESS_LEAST <= self.address)
+            & (self.second != self.address)
+            & self.ratios.within()
     }
 }

@@ -56,17 +56,30 @@ impl Meter {
 
     pub const SECTOR_TOP: u8 = 2;
 
-    // A new meter. If it is refused, its record is out of limits, so that every later call refuses it too.
+    // A new meter that names no second address.
     pub fn new(address: u8, ratios: Ratios) -> Answered
         ensures { λ r. ⌜ r ≡ newOf (givenOf address ratios) ⌝ }
     {
-        let given = Given { address, ratios };
+        Meter::of(Given {
+            address,
+            second: Given::NO_SECOND,
+            ratios,
+        })
+    }
+
+    // A new meter. If it is refused, its record is out of limits, so that every later call refuses it too.
+    pub fn of(given: Given) -> Answered
+        ensures { λ r. ⌜ r ≡ newOf given ⌝ }
+    {
         let meter = Meter::blank(given);
-        if !ratios.within() {
+        if !given.ratios.within() {
             return meter.refused(Refusal::RatioOutOfLimits);
         }
-        if address < Meter::ADDRESS_LEAST {
+        if given.address < Meter::ADDRESS_LEAST {
             return meter.refused(Refusal::OwnAddressZero);
+        }
+        if given.second == given.address {
+            return meter.refused(Refusal::MeterOutOfLimits);
         }
         Answered {
             answer: Answer::Accepted,

@@ -3,7 +3,7 @@ use mathlib.Core.Path.{_≡_, refl, sym, ap, _∙_}
 use mathlib.Core.Logic.{_↔_, _⊎_, inl, inr}
 use mathlib.Core.Bool.{Bool, true, false, _||_, not, cond, false≢true}
 use mathlib.Core.List.{List}
-use Prim.Native.Nat.{ℕ, _+_, _*_, _≤_}
+use Prim.Native.Nat.{ℕ, _+_, _*_, _≤_, _<_}
 use native.Mathlib.Omega.{arith}
 use lib.Dec.{T, ltb, eqb}
 use lib.ListN.{length, take, drop}
@@ -19,8 +19,10 @@ use Rattle.directory.specs.Views.{View, passes, viewOf, Lent}
 use Rattle.directory.proofs.Errors.{no-run, data-sound, run-sound}
 use Rattle.directory.proofs.Views.{passes-ruled, passes-room, run-room, run-part, run-narrow}
 use Rattle.directory.proofs.Sends.{run-sends}
+use Rattle.directory.specs.Tenant.{forTenant, leading, tenantOf}
+use Rattle.directory.proofs.Tenant.{tenant-passes, tenant-long, run-first, run-within}
 use Rattle.modbus.specs.Frame.{startOf, wordNumber}
-use Rattle.modbus.specs.Read.{numberWrong, readIn, ReadWhen}
+use Rattle.modbus.specs.Read.{numberWrong, readIn, ReadWhen, TenantReads}
 use Rattle.modbus.proofs.Frames.{neither}
 
 data-address : Error Data ≡ Error Address → ⊥
@@ -88,6 +90,35 @@ legal-read v good {frame} {first} {count} e =
       inside = run-sends (v .seen) _ _ first count (passes-ruled v good) (t .2) .inside;
       sends = run-sends (v .seen) _ _ first count (passes-ruled v good) (t .2) .sends;
     }
+
+-- ---- over a tenant's part of a view
+
+module _ (v : View) (good : T (passes v)) (frame : List ℕ) where
+  -- the length and the number of words are judged alike, and so is the run, or it ends in error 02
+  either : (readIn (tenantOf v) frame ≡ readIn v frame) ⊎ (readIn (tenantOf v) frame ≡ Error Address)
+  unfolding readIn
+  either = by (not (eqb (length frame) 8) || numberWrong (v .most) (wordNumber frame)) (run-first (v .seen) (leading forTenant (v .seen)) (startOf frame) (wordNumber frame))
+    where
+      by : (b : Bool) {x y : Span} → (x ≡ y) ⊎ (x ≡ Error Address) → (cond b (Error Data) x ≡ cond b (Error Data) y) ⊎ (cond b (Error Data) x ≡ Error Address)
+      by true h = inl refl
+      by false h = h
+
+  inside : (first count : ℕ) → readIn v frame ≡ Items first count → first + count ≤ length (tenantOf v .seen) → readIn (tenantOf v) frame ≡ Items first count
+  inside first count e few =
+      let t = read-when v frame .items first count .0 e in
+      let n = neither (ltb (wordNumber frame) 1) (ltb (v .most) (wordNumber frame)) (t .1) in
+      read-when (tenantOf v) frame .items first count .1
+      (t .0, t .1, run-within (v .seen) (leading forTenant (v .seen)) (passes-ruled v good) _ _ first count (ltb-false _ _ (n .0)) (t .2) (omega (arith, few, tenant-long v)))
+
+  leaves : (first count : ℕ) → readIn v frame ≡ Items first count → length (tenantOf v .seen) < first + count → readIn (tenantOf v) frame ≡ Error Address
+  leaves first count e more = by either
+    where
+      by : (readIn (tenantOf v) frame ≡ readIn v frame) ⊎ (readIn (tenantOf v) frame ≡ Error Address) → readIn (tenantOf v) frame ≡ Error Address
+      by (inl same) = absurd (omega (arith, more, legal-read (tenantOf v) (tenant-passes v good) (same ∙ e) .inside))
+      by (inr h) = h
+
+  pub tenant-reads : TenantReads v frame
+  tenant-reads = record { either = either; inside = inside; leaves = leaves }
 
 -- ---- over a table that is lent
 

@@ -2,7 +2,7 @@
 -- meter answers by it, and the collector knows by it which requests are answered with data.
 use mathlib.Core.Path.{_≡_}
 use mathlib.Core.Logic.{_↔_, _⊎_}
-use Prim.Native.Nat.{ℕ}
+use Prim.Native.Nat.{ℕ, _+_, _≤_, _<_}
 use mathlib.Core.Bool.{Bool, true, false, _||_, not, cond}
 use mathlib.Core.List.{List}
 use lib.Dec.{ltb, eqb}
@@ -12,6 +12,7 @@ use Rattle.directory.specs.declared.Span.{Span}
 use Rattle.directory.specs.declared.Span.the-variants.{Items, Error}
 use Rattle.directory.specs.Run.{runIn}
 use Rattle.directory.specs.Views.{View}
+use Rattle.directory.specs.Tenant.{tenantOf}
 use Rattle.modbus.specs.Frame.{startOf, wordNumber}
 
 -- word number outside 1 to the most
@@ -43,3 +44,14 @@ module _ (v : View) (frame : List ℕ) where
         (first count : ℕ) →
         (readIn v frame ≡ Items first count) ↔ ((length frame ≡ 8) × (wrong ≡ false) × (runAsked ≡ Items first count))
     pub never : readIn v frame ≡ Error Function → ⊥
+
+  -- STATEMENT: a tenant's read (request 3) is judged as over the whole directory, or gets error 02. One that the whole directory answers
+  -- with data is answered with the same items if these are all for the tenant; if not, it would leave the view, and gets error 02
+  pub record TenantReads : Type 0 where
+    pub either : (readIn (tenantOf v) frame ≡ readIn v frame) ⊎ (readIn (tenantOf v) frame ≡ Error Address)
+    pub inside :
+        (first count : ℕ) → readIn v frame ≡ Items first count → first + count ≤ length (tenantOf v .seen) →
+        readIn (tenantOf v) frame ≡ Items first count
+    pub leaves :
+        (first count : ℕ) → readIn v frame ≡ Items first count → length (tenantOf v .seen) < first + count →
+        readIn (tenantOf v) frame ≡ Error Address

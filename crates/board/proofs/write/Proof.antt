@@ -1,5 +1,6 @@
 -- What the write came to is stored and, unless it is for all meters, answered by its verdict.
 use mathlib.Core.Path.{_≡_, sym, ap, _∙_}
+use mathlib.Core.Bool.{true}
 use native.Mathlib.Omega.{arith}
 use borrow.Author.Needs.{needs}
 use Rattle.modbus.proofs.Frames.{heeded, shaped-length}
@@ -27,7 +28,7 @@ returns : tie.Need-returns
 returns c =
     let s = c .before .before .before .before .before .before .before in
     let w = c .before .before .before .before .write in
-    let b = allowed (write-silent own (s .args .meter) (s .args .frame .now) (s .args .buffer .now) (s .pre .1 .0) (w .result) (w .ensures) (c .before .if1 .taken)) in
+    let b = allowed (write-silent own true (s .args .meter) (s .args .frame .now) (s .args .buffer .now) (s .pre .1 .0) (w .result) (w .ensures) (c .before .if1 .taken)) in
     record { handled = c .hand-back .ensures ∙ b .handled; bytes = b .bytes }
 
 enum-told : tie.Need-enum-told
@@ -58,7 +59,7 @@ returns-2 c =
     let w = c .before .before .before .before .before .before .before .before .before .write in
     let good : w .result .verdict ≡ Good = c .before .before .before .before .enum-told .given .1 in
     let e = c .before .before .put-echo .ensures in
-    allowed (write-sent own (s .args .meter) (s .args .frame .now) (s .args .buffer .now) (s .pre .1 .0) (w .result) (w .ensures) (c .before .before .before .before .before .before .if1 .left) Good good _ _ (e .0) (e .1))
+    allowed (write-sent own true (s .args .meter) (s .args .frame .now) (s .args .buffer .now) (s .pre .1 .0) (w .result) (w .ensures) (c .before .before .before .before .before .before .if1 .left) Good good _ _ (e .0) (e .1))
 
 same-length-2 : tie.Need-same-length-2
 same-length-2 c = search needs
@@ -71,7 +72,7 @@ returns-3 c =
     let code = told .0 .0 in
     let wrong : w .result .verdict ≡ Wrong code = told .1 in
     let e = c .before .before .put-error .ensures in
-    allowed (write-sent own (s .args .meter) (s .args .frame .now) (s .args .buffer .now) (s .pre .1 .0) (w .result) (w .ensures) (c .before .before .before .before .before .before .before .if1 .left) (Wrong code) wrong _ _ (e .0) (e .1))
+    allowed (write-sent own true (s .args .meter) (s .args .frame .now) (s .args .buffer .now) (s .pre .1 .0) (w .result) (w .ensures) (c .before .before .before .before .before .before .before .if1 .left) (Wrong code) wrong _ _ (e .0) (e .1))
 
 pub write-spec : {M : Type 1} → statement M
 write-spec =
