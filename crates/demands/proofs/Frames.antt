@@ -16,7 +16,7 @@ use Rattle.refusal.specs.Numbers.{errorNumber, refusedBy}
 use Rattle.refusal.proofs.Distinct.{one-reason-each, caseIn, numberIn}
 use Rattle.crc.specs.Crc.{intact}
 use Rattle.directory.specs.Views.{View, passes}
-use Rattle.modbus.specs.Frame.{silence, isRead, isWrite, writeValues}
+use Rattle.modbus.specs.Frame.{isRead, writeValues}
 use Rattle.modbus.specs.Replies.{errorReply}
 use Rattle.modbus.proofs.Judged.{read-when}
 use Rattle.modbus.proofs.Stores.{sets-taken}
@@ -30,13 +30,13 @@ use Rattle.board.specs.declared.Reply.{Reply}
 use Rattle.board.specs.declared.Reply.the-variants.{Silent, Sent, Refused}
 use Rattle.store.specs.Writes.{toStandard, storedOf, verdictTold}
 use Rattle.board.specs.Board.{Outcome, replyTold, boardIn}
-use Rattle.demands.specs.Frames.{Heeds, Answers, SendsError, ReadErrs, WriteErrs, Quiet, Stores, Altered, Opened, FrameGives, FramesWhen, Obeys, Untouched, WindowOpened, RepliesSealed, BufferUnseen}
+use Rattle.demands.specs.Frames.{unheard, seenBy, writes, Heeds, Answers, SendsError, ReadErrs, WriteErrs, Quiet, Stores, Altered, Opened, FrameGives, FramesWhen, Obeys, Untouched, WindowOpened, RepliesSealed, BufferUnseen}
 use Rattle.board.proofs.Lengths.{board-short}
 use Rattle.board.proofs.Cases.{board-1, board-2, board-silent}
 use Rattle.store.proofs.Verdicts.{write-when, write-within}
 use Rattle.demands.proofs.Gives.{Gives, Case, case}
 use Rattle.demands.proofs.Gives.Gives.{other, misread, shows, miswritten, stores}
-use Rattle.demands.proofs.Gives.Case.{out, short, unheard, for-all, for-one}
+use Rattle.demands.proofs.Gives.Case.{out, short, unheeded, for-all, for-one}
 use Rattle.demands.proofs.Replies.{gives-sent, gives-quiet, gives-long, gives-whole, sent-beyond, sent-length, sent-same, Faults, faults}
 use Rattle.demands.proofs.Replies.Faults.{unknown, bad-read, bad-write}
 
@@ -96,7 +96,7 @@ module _ (v : View) (good : T (passes v)) where
     refuses : Case v m frame b → (n : ℕ) → FrameGives v m frame b (refusedBy n) → Refuses n
     refuses (out h e) n r = by-record (sym (ap numberIn (told-as e r))) h
     refuses (short h k e) n r = by-buffer (sym (ap numberIn (told-as e r))) h k
-    refuses (unheard h k q e) n r = absurd (omega (arith, ap caseIn (told-as e r)))
+    refuses (unheeded h k q e) n r = absurd (omega (arith, ap caseIn (told-as e r)))
     refuses (for-all bytes k h z g e) n r = absurd (omega (arith, ap caseIn (told-as e r)))
     refuses (for-one bytes k a g e) n r = absurd (omega (arith, ap caseIn (told-as e r)))
 
@@ -115,14 +115,14 @@ module _ (v : View) (good : T (passes v)) where
     silent-to : Case v m frame b → said (boardIn v m frame b) ≡ Silent → (meterOk m ≡ true) × (256 ≤ length b) × Quiet m frame
     silent-to (out h e) r = apart (λ z. omega arith) (heard-as e r)
     silent-to (short h k e) r = apart (λ z. omega arith) (heard-as e r)
-    silent-to (unheard h k q e) r = (h, k, inl q)
+    silent-to (unheeded h k q e) r = (h, k, inl q)
     silent-to (for-all bytes n h z g e) r = (h .within, h .room, inr z)
     silent-to (for-one bytes n a g e) r = apart (λ z. omega arith) (heard-as e r)
 
     silent-from : Case v m frame b → meterOk m ≡ true → 256 ≤ length b → Quiet m frame → said (boardIn v m frame b) ≡ Silent
     silent-from (out h e) k l q = absurd (false≢true (sym h ∙ k))
     silent-from (short h s e) k l q = absurd (omega arith)
-    silent-from (unheard h s p e) k l q = ap said e
+    silent-from (unheeded h s p e) k l q = ap said e
     silent-from (for-all bytes n h z g e) k l q = ap said e
     silent-from (for-one bytes n a g e) k l (inl q) = absurd (false≢true (sym (a .heeds .heard) ∙ q))
     silent-from (for-one bytes n a g e) k l (inr z) = absurd (a .own z)
@@ -133,29 +133,29 @@ module _ (v : View) (good : T (passes v)) where
     errs-to : Case v m frame b → SendsError v m frame b (errorNumber code) → Answers m frame b × Faults v good code m frame
     errs-to (out h e) r = apart (λ z. omega arith) (ap said (sym e ∙ r))
     errs-to (short h k e) r = apart (λ z. omega arith) (ap said (sym e ∙ r))
-    errs-to (unheard h k q e) r = apart (λ z. omega arith) (ap said (sym e ∙ r))
+    errs-to (unheeded h k q e) r = apart (λ z. omega arith) (ap said (sym e ∙ r))
     errs-to (for-all bytes n h z g e) r = apart (λ z. omega arith) (ap said (sym e ∙ r))
     errs-to (for-one bytes n a g e) r =
         let room = a .heeds .room in
         (a, faults v good m frame bytes n code g (sent-same bytes (errorReply frame code) n m b (omega (arith, gives-long v good m frame bytes n g)) (omega (arith, five frame code)) (sym e ∙ r)))
 
-    errs-from : Answers m frame b → ReadErrs v code frame ⊎ WriteErrs code m frame → SendsError v m frame b (errorNumber code)
+    errs-from : Answers m frame b → ReadErrs (seenBy v m frame) code frame ⊎ WriteErrs code m frame → SendsError v m frame b (errorNumber code)
     errs-from a (inl r) = gives-sent v good m frame b a (errorReply frame code) m (misread code (r .0) (r .1) refl refl)
     errs-from a (inr w) = gives-sent v good m frame b a (errorReply frame code) m (miswritten code (w .0) (w .1) refl refl)
 
     -- a code that is not 01 is due to a read or a write
-    named : (Function ≡ code → ⊥) → Faults v good code m frame → ReadErrs v code frame ⊎ WriteErrs code m frame
+    named : (Function ≡ code → ⊥) → Faults v good code m frame → ReadErrs (seenBy v m frame) code frame ⊎ WriteErrs code m frame
     named n (unknown r w e) = absurd (n e)
     named n (bad-read h) = inl h
     named n (bad-write h) = inr h
 
-    errs-when : (Function ≡ code → ⊥) → SendsError v m frame b (errorNumber code) ↔ (Answers m frame b × (ReadErrs v code frame ⊎ WriteErrs code m frame))
+    errs-when : (Function ≡ code → ⊥) → SendsError v m frame b (errorNumber code) ↔ (Answers m frame b × (ReadErrs (seenBy v m frame) code frame ⊎ WriteErrs code m frame))
     errs-when n = (λ h. let t = errs-to (case v m frame b) h in (t .0, named n (t .1)), λ h. errs-from (h .0) (h .1))
 
   -- 01 is due to neither
-  no-function : (m : Meter) (frame : List ℕ) → Faults v good Function m frame → (isRead frame ≡ false) × (isWrite frame ≡ false)
+  no-function : (m : Meter) (frame : List ℕ) → Faults v good Function m frame → (isRead frame ≡ false) × (writes m frame ≡ false)
   no-function m frame (unknown r w e) = (r, w)
-  no-function m frame (bad-read h) = absurd (read-when v frame .never (h .1))
+  no-function m frame (bad-read h) = absurd (read-when (seenBy v m frame) frame .never (h .1))
   no-function m frame (bad-write h) = absurd (neither (write-when m frame .only 1 (ap verdictTold (h .1))))
     where
       neither : (errorNumber Function ≡ 2) ⊎ (errorNumber Function ≡ 3) → ⊥
@@ -199,21 +199,21 @@ module _ (v : View) (good : T (passes v)) where
     refused : Case v m frame b → (reason : Refusal) → said (boardIn v m frame b) ≡ Refused reason → (boardIn v m frame b .handled .meter ≡ m) × (boardIn v m frame b .buffer ≡ b)
     refused (out h e) reason r = (ap (λ (o : Outcome). o .handled .meter) e, ap (λ (o : Outcome). o .buffer) e)
     refused (short h k e) reason r = (ap (λ (o : Outcome). o .handled .meter) e, ap (λ (o : Outcome). o .buffer) e)
-    refused (unheard h k q e) reason r = apart (λ z. omega arith) (heard-as e r)
+    refused (unheeded h k q e) reason r = apart (λ z. omega arith) (heard-as e r)
     refused (for-all bytes n h z g e) reason r = apart (λ z. omega arith) (heard-as e r)
     refused (for-one bytes n a g e) reason r = apart (λ z. omega arith) (heard-as e r)
 
-    unheeded : Case v m frame b → silence (m .given .address) frame ≡ true → (boardIn v m frame b .handled .meter ≡ m) × (boardIn v m frame b .buffer ≡ b)
-    unheeded (out h e) q = (ap (λ (o : Outcome). o .handled .meter) e, ap (λ (o : Outcome). o .buffer) e)
-    unheeded (short h k e) q = (ap (λ (o : Outcome). o .handled .meter) e, ap (λ (o : Outcome). o .buffer) e)
-    unheeded (unheard h k s e) q = (ap (λ (o : Outcome). o .handled .meter) e, ap (λ (o : Outcome). o .buffer) e)
-    unheeded (for-all bytes n h z g e) q = absurd (false≢true (sym (h .heard) ∙ q))
-    unheeded (for-one bytes n a g e) q = absurd (false≢true (sym (a .heeds .heard) ∙ q))
+    not-heeded : Case v m frame b → unheard m frame ≡ true → (boardIn v m frame b .handled .meter ≡ m) × (boardIn v m frame b .buffer ≡ b)
+    not-heeded (out h e) q = (ap (λ (o : Outcome). o .handled .meter) e, ap (λ (o : Outcome). o .buffer) e)
+    not-heeded (short h k e) q = (ap (λ (o : Outcome). o .handled .meter) e, ap (λ (o : Outcome). o .buffer) e)
+    not-heeded (unheeded h k s e) q = (ap (λ (o : Outcome). o .handled .meter) e, ap (λ (o : Outcome). o .buffer) e)
+    not-heeded (for-all bytes n h z g e) q = absurd (false≢true (sym (h .heard) ∙ q))
+    not-heeded (for-one bytes n a g e) q = absurd (false≢true (sym (a .heeds .heard) ∙ q))
 
     silent : Case v m frame b → said (boardIn v m frame b) ≡ Silent → boardIn v m frame b .buffer ≡ b
     silent (out h e) r = apart (λ z. omega arith) (heard-as e r)
     silent (short h k e) r = apart (λ z. omega arith) (heard-as e r)
-    silent (unheard h k q e) r = ap (λ (o : Outcome). o .buffer) e
+    silent (unheeded h k q e) r = ap (λ (o : Outcome). o .buffer) e
     silent (for-all bytes n h z g e) r = ap (λ (o : Outcome). o .buffer) e
     silent (for-one bytes n a g e) r = apart (λ z. omega arith) (heard-as e r)
 
@@ -229,7 +229,7 @@ module _ (v : View) (good : T (passes v)) where
     sent : Case v m frame b → (k : ℕ) → said (boardIn v m frame b) ≡ Sent k → Reply-sent k
     sent (out h e) k r = apart (λ z. omega arith) (heard-as e r)
     sent (short h l e) k r = apart (λ z. omega arith) (heard-as e r)
-    sent (unheard h l q e) k r = apart (λ z. omega arith) (heard-as e r)
+    sent (unheeded h l q e) k r = apart (λ z. omega arith) (heard-as e r)
     sent (for-all bytes n h z g e) k r = apart (λ z. omega arith) (heard-as e r)
     sent (for-one bytes n a g e) k r =
         record { bytes = bytes; next = n; answers = a; gives = g; long = sent-length (heard-as e r); after = ap (λ (o : Outcome). o .buffer) e }
@@ -247,7 +247,7 @@ module _ (v : View) (good : T (passes v)) where
     altered : Case v m frame b → Kept m frame b (boardIn v m frame b .handled .meter)
     altered (out h e) = inl (ap (λ (o : Outcome). o .handled .meter) e)
     altered (short h k e) = inl (ap (λ (o : Outcome). o .handled .meter) e)
-    altered (unheard h k q e) = inl (ap (λ (o : Outcome). o .handled .meter) e)
+    altered (unheeded h k q e) = inl (ap (λ (o : Outcome). o .handled .meter) e)
     altered (for-all bytes n h z g e) = rw e (gives-kept m frame b bytes n h g)
     altered (for-one bytes n a g e) = rw e (gives-kept m frame b bytes n (a .heeds) g)
 
@@ -274,7 +274,7 @@ module _ (v : View) (good : T (passes v)) where
     untouched =
         record {
           refused = refused (case v m frame b);
-          unheard = unheeded (case v m frame b);
+          unheard = not-heeded (case v m frame b);
           silent = silent (case v m frame b);
           beyond = λ n h. beyond n (sent (case v m frame b) n h);
           altered = alters _ kept;
@@ -340,7 +340,7 @@ module _ (v : View) (good : T (passes v)) where
     same : Case v m frame a → boardIn v m frame a .handled ≡ boardIn v m frame b .handled
     same (out h e) = handled e ∙ handled (board-1 v m frame b h)
     same (short h k e) = absurd (omega arith)
-    same (unheard h k q e) = handled e ∙ handled (board-silent v m frame b h (le-ltb _ _ rb) q)
+    same (unheeded h k q e) = handled e ∙ handled (board-silent v m frame b h (le-ltb _ _ rb) q)
     same (for-all bytes n h z g e) = handled e ∙ sym (handled (gives-quiet v good m frame b (moved h) z bytes n g))
     same (for-one bytes n h g e) = handled e ∙ sym (handled (gives-sent v good m frame b (own-moved h) bytes n g))
 

@@ -1,30 +1,39 @@
 -- A history is made of what it asks for, and the read of one item polls it; after typed events a record is as a program holds it, so the round trip holds of it.
-use mathlib.Core.Path.{_≡_, refl, sym, ap, _∙_}
-use mathlib.Core.Bool.{false}
+use mathlib.Core.Path.{_≡_, refl, sym, ap, subst, _∙_}
+use mathlib.Core.Logic.{inl, inr}
+use mathlib.Core.Bool.{Bool, true, false}
 use mathlib.Core.List.{List, [], _∷_}
-use Prim.Native.Nat.{ℕ, _≤_, _<_}
+use Prim.Native.Nat.{ℕ, _+_, _≤_, _<_}
+use native.Mathlib.Nat.{pos-of-ne-zero}
 use native.Mathlib.Omega.{arith}
 use lib.Dec.{T}
 use lib.ListN.{length, getD, replicate}
+use Rattle.directory.specs.declared.Item.{Item}
 use Rattle.directory.specs.Item.{none}
 use Rattle.directory.specs.Views.{View, passes}
+use Rattle.directory.specs.Tenant.{tenantOf}
+use Rattle.directory.proofs.Views.{passes-tested}
+use Rattle.modbus.specs.Read.{readIn}
+use Rattle.modbus.proofs.Judged.{legal-read}
 use Rattle.reading.specs.declared.Answer.the-variants.{Reading}
-use Rattle.collector.specs.Collector.{collectorIn}
 use Rattle.meter.specs.declared.Answer.the-variants.{Accepted}
 use Rattle.meter.specs.declared.given.Given.{Given}
 use Rattle.meter.specs.declared.Meter.{Meter}
 use Rattle.meter.specs.Samples.{noSample}
 use Rattle.meter.specs.Meters.{newOf}
-use Rattle.meter.proofs.Accepts.{made-within, new-blank}
+use Rattle.meter.proofs.Accepts.{made-within, new-blank, new-answers}
+use Rattle.registers.proofs.Widths.{Shows, typed-shows}
+use Rattle.board.specs.Board.{toSecond, viewFor}
 use Rattle.demands.specs.Meaning.{meaningOf}
-use Rattle.demands.specs.RoundTrip.{replyTo, Meets}
+use Rattle.demands.specs.RoundTrip.{Names}
 use Rattle.demands.specs.Polled.{requestFor}
 use Rattle.demands.specs.Histories.{Event, afterEvent, afterAll, anyTaken, AllTyped}
 use Rattle.demands.specs.Histories.AllTyped.{more, none as nothing}
 use Rattle.demands.specs.Demand3.{Poll, collected}
 use Rattle.demands.specs.NotEmpty.{frames, ItemPoll, NotEmpty, ReadsAlways}
-use Rattle.demands.proofs.Polls.{round-trip}
-use Rattle.demands.proofs.Polled.{every-item-polled}
+use Rattle.demands.proofs.Seen.{to-second, to-own, part-passes, whole}
+use Rattle.demands.proofs.Polls.{asked-whole, poll-reads}
+use Rattle.demands.proofs.Polled.{asked-alone}
 use Rattle.demands.proofs.Histories.{after-events}
 use Rattle.demands.proofs.Types.{zeros, blank-sample, types-kept}
 
@@ -35,27 +44,51 @@ module _ (v : View) (good : T (passes v)) where
   idle m buffer [] = refl
   idle m buffer (f ∷ fs) = idle (afterEvent v m (Event.frame f buffer)) buffer fs
 
-  -- the read of one item
-  poll : (g : Given) (i : ℕ) → 1 ≤ g .address → i < length (v .seen) → ItemPoll v g i
-  poll g i some l = (
-    record {
-      request = requestFor (g .address) (getD (v .seen) i none);
-      buffer = replicate 256 0;
-      index = 0;
-      asks = record { hears = every-item-polled v good .hears (g .address) i some l; first = i; count = 1; items = every-item-polled v good .items (g .address) i l };
-      own = refl;
-      room = omega arith;
-      below = omega arith;
-      shows = ap (λ (k : ℕ). getD (v .seen) k none .quantity) (omega arith);
-    },
-    omega arith,
-  )
+  -- the read of one item, over what the address named sees
+  one-item : (tenant : Bool) (g : Given) (address i : ℕ) → 1 ≤ address → i < length (viewFor v tenant .seen) → toSecond g (requestFor address (getD (viewFor v tenant .seen) i none)) ≡ tenant → Names g (requestFor address (getD (viewFor v tenant .seen) i none)) → ItemPoll v (viewFor v tenant) g address i
+  one-item tenant g address i some l whose named =
+      let request = requestFor address (getD (viewFor v tenant .seen) i none) in
+      let same : toSecond g request ≡ tenant = whose in
+      (
+        record {
+          request = request;
+          buffer = replicate 256 0;
+          index = 0;
+          asks = record {
+            hears = asked-alone (viewFor v tenant) (part-passes v good tenant) address i some l .hears;
+            first = i;
+            count = 1;
+            items = ap (λ (t : Bool). readIn (viewFor v t) request) same ∙ asked-alone (viewFor v tenant) (part-passes v good tenant) address i some l .items;
+          };
+          named = named;
+          room = omega arith;
+          below = omega arith;
+          shows = λ j. getD (viewFor v (same j) .seen) (at j) none .quantity;
+        },
+        omega arith,
+        refl,
+      )
+    where
+      at : i + 0 ≡ i
+      at = omega arith
+
+  poll : (g : Given) (i : ℕ) → newOf g .answer ≡ Accepted → i < length (v .seen) → ItemPoll v v g (g .address) i
+  poll g i made l =
+      let known = new-answers g .accepted .0 made in
+      let request = requestFor (g .address) (getD (v .seen) i none) in
+      one-item false g (g .address) i (pos-of-ne-zero (known .1)) l (to-own g request (known .2) refl) (inl refl)
+
+  tenant-poll : (g : Given) (i : ℕ) → newOf g .answer ≡ Accepted → (g .second ≡ 0 → ⊥) → i < length (tenantOf v .seen) → ItemPoll v (tenantOf v) g (g .second) i
+  tenant-poll g i made some l =
+      let whose = to-second g (requestFor (g .second) (getD (tenantOf v .seen) i none)) some refl in
+      one-item true g (g .second) i (pos-of-ne-zero some) l whose (inr whose)
 
   pub not-empty : NotEmpty v
   not-empty = record {
     history = λ g events between made still. (record { given = g; made = made; events = events; between = between; idle = still }, refl, refl, refl);
     idle = idle;
     poll = poll;
+    tenant-poll = tenant-poll;
     typed = more {x = Event.sample noSample} blank-sample (more {x = Event.frame (0 ∷ []) []} (λ i. zeros 1 256 i (omega arith)) nothing);
   }
 
@@ -66,11 +99,13 @@ module _ (v : View) (good : T (passes v)) where
       let first = newOf g .meter in
       let m = afterAll v first xs in
       let same : m .given ≡ g = after-events v good .given first xs ∙ ap (λ (x : Meter). x .given) (new-blank g) in
-      let own = ap (λ (x : Given). x .address) same in
-      let meets : Meets m (p .request) (p .buffer) = record { within = after-events v good .within first xs (made-within g made); room = p .room; own = own ∙ sym (p .own) } in
-      ap (λ (x : Given). collectorIn v (p .request) (replyTo v m (p .request) (p .buffer)) (x .ratios) (p .index)) (sym same)
-      ∙ round-trip v good m (p .request) (p .buffer) meets .reads (p .index) (types-kept v good .events first xs (types-kept v good .new g) typed) (p .asks) (p .below)
-      ∙ ap (λ (x : ℕ). Reading (meaningOf m x)) (p .shows)
+      let within = after-events v good .within first xs (made-within g made) in
+      let tenant = toSecond g (p .request) in
+      let its = asked-whole v good tenant (p .asks) in
+      let here = whole v good tenant (p .request) (p .asks .first) (p .asks .count) (p .asks .items) .item (p .index) (p .below) in
+      let known : p .asks .first + p .index < length (v .seen) = omega (arith, p .below, legal-read v good (its .items) .inside) in
+      let shows = typed-shows (v .seen) (passes-tested v good) (p .asks .first + p .index) known m (types-kept v good .events first xs (types-kept v good .new g) typed) within in
+      poll-reads v good m within same p (subst (λ (x : ℕ). Shows m x) (ap (λ (it : Item). it .quantity) (sym here) ∙ p .shows) shows)
 
   pub reads-always : ReadsAlways v
   reads-always = record { polls = polls }

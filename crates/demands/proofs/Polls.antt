@@ -1,6 +1,7 @@
 -- A reply to a read is a data reply: as long as it says, with its CRC, and with each item's words where the collector looks for them.
-use mathlib.Core.Path.{_≡_, refl, sym, ap, _∙_}
-use mathlib.Core.Bool.{true, false, false≢true}
+use mathlib.Core.Path.{_≡_, refl, sym, ap, subst, _∙_}
+use mathlib.Core.Logic.{_↔_, _⊎_, inl, inr}
+use mathlib.Core.Bool.{Bool, true, false, not, false≢true, and-eq-true-iff}
 use mathlib.Core.List.{List, [], _∷_, _++_, append-assoc}
 use Prim.Native.Nat.{ℕ, zero, suc, _+_, _*_, _^_, _≤_, _<_}
 use native.Mathlib.Nat.{lt-of-lt-of-le, pow-le-pow-right}
@@ -9,7 +10,7 @@ use lib.Dec.{T}
 use lib.ListN.{length, getD, take, drop}
 use borrow.Author.Tests.{eqb-true, eq-eqb, le-ltb}
 use Rattle.refusal.specs.declared.ErrorCode.{ErrorCode}
-use Rattle.refusal.specs.declared.ErrorCode.the-variants.{Function}
+use Rattle.refusal.specs.declared.ErrorCode.the-variants.{Function, Address}
 use Rattle.refusal.specs.Numbers.{refusedBy, errorBy}
 use Rattle.crc.specs.Crc.{crcOf, onLine}
 use Rattle.crc.proofs.Laws.{length-sealed, intact-is-sealed}
@@ -18,9 +19,11 @@ use Rattle.words.proofs.Laws.{read-back}
 use Rattle.ratio.specs.declared.Ratios.{Ratios}
 use Rattle.ratio.specs.Ratios.{ratiosOk}
 use Rattle.directory.specs.declared.Item.{Item}
+use Rattle.directory.specs.declared.Span.the-variants.{Items, Error}
 use Rattle.directory.specs.Item.{none}
 use Rattle.directory.specs.Run.{runItems}
 use Rattle.directory.specs.Views.{View, passes}
+use Rattle.directory.specs.Tenant.{tenantOf}
 use Rattle.directory.proofs.Order.{ruled-narrow}
 use Rattle.directory.proofs.Rules.{directory-rules}
 use Rattle.directory.proofs.Shapes.{shape}
@@ -29,11 +32,12 @@ use Rattle.modbus.specs.Frame.{addressOf, functionOf, wordNumber, isRead, isWri
 use Rattle.modbus.specs.Replies.{errorBytes, errorReply, echoReply}
 use Rattle.modbus.proofs.Frames.{shaped-length}
 use Rattle.modbus.proofs.Stores.{sets-taken}
-use Rattle.modbus.proofs.Judged.{legal-read}
+use Rattle.modbus.specs.Read.{readIn}
+use Rattle.modbus.proofs.Judged.{legal-read, tenant-reads}
 use Rattle.meter.specs.declared.Meter.{Meter}
 use Rattle.meter.specs.declared.given.Given.{Given}
 use Rattle.meter.specs.Meters.{meterT, meterOk}
-use Rattle.meter.proofs.Parts.{own-ratios}
+use Rattle.meter.proofs.Parts.{own-ratios, other-address}
 use Rattle.store.proofs.Verdicts.{write-when}
 use Rattle.registers.specs.Shown.{shownOf}
 use Rattle.registers.proofs.Widths.{Shows, in-room, typed-shows}
@@ -41,14 +45,15 @@ use Rattle.reading.specs.declared.Answer.the-variants.{Reading}
 use Rattle.reading.specs.Told.{told}
 use Rattle.reading.specs.Readings.{readingOf}
 use Rattle.board.specs.Reads.{itemsSent, dataReply}
-use Rattle.board.specs.Board.{Outcome}
-use Rattle.demands.specs.Frames.{Answers}
+use Rattle.board.specs.Board.{Outcome, sentOf, toSecond, addressFor, viewFor}
+use Rattle.demands.specs.Frames.{seenBy, Answers}
 use Rattle.board.proofs.Sent.{length-items}
 use Rattle.demands.proofs.Gives.{Gives, Case, case}
 use Rattle.demands.proofs.Gives.Gives.{other, misread, shows, miswritten, stores}
-use Rattle.demands.proofs.Gives.Case.{out, short, unheard, for-all, for-one}
+use Rattle.demands.proofs.Gives.Case.{out, short, unheeded, for-all, for-one}
 use Rattle.demands.proofs.Replies.{gives-long, gives-whole, echo-function}
-use Rattle.demands.proofs.Frames.{obeys}
+use Rattle.demands.proofs.Frames.{obeys, frames-when}
+use Rattle.demands.proofs.Seen.{to-own, named-address, whole}
 use Rattle.collector.specs.Collector.{heard, isReadError, placeOf, collectorIn}
 use Rattle.collector.specs.When.{Asks, Asked, Fits, itemAt, valueIn, ReplyGives}
 use Rattle.collector.proofs.Requests.{Hears, hears, heard-so}
@@ -56,7 +61,7 @@ use Rattle.collector.proofs.Places.{run-length, run-at}
 use Rattle.collector.proofs.When.{replies-when}
 use Rattle.demands.specs.Meaning.{meaningOf}
 use Rattle.demands.proofs.Shown.{item-read}
-use Rattle.demands.specs.RoundTrip.{replyIn, replyTo, Meets, WithData, RoundTrip}
+use Rattle.demands.specs.RoundTrip.{replyIn, Names, replyTo, Meets, WithData, RoundTrip}
 use Rattle.demands.specs.Demand3.{Poll, collected}
 
 -- ---- the words of an item, among those of a run
@@ -91,10 +96,18 @@ no-echo frame bytes long w e h =
     let f : functionOf frame ≡ 0x03 = sym second ∙ eqb-true (functionOf (echoReply frame)) 0x03 (sym (ap isRead e) ∙ h) in
     let y : ⊥ = omega (arith, f, eqb-true (functionOf frame) 0x10 w) in absurd y
 
+-- a request is judged by the address that it names
+judged : (m : Meter) (request b : List ℕ) → Meets m request b → addressFor (m .given) (toSecond (m .given) request) ≡ addressOf request
+judged m request b meets = named-address (m .given) request (other-address m (meets .within)) (meets .named)
+
 module _ (v : View) (good : T (passes v)) where
+  -- what is asked of a part is asked of the whole
+  abbrev pub asked-whole : (tenant : Bool) {request : List ℕ} → Asks (viewFor v tenant) request → Asks v request
+  asked-whole tenant {request} a = record { hears = a .hears; first = a .first; count = a .count; items = whole v good tenant request (a .first) (a .count) (a .items) .items }
+
   -- ---- the reply
 
-  module _ (m : Meter) (request b : List ℕ) (meets : Meets m request b) (a : Asks v request) where
+  module _ (m : Meter) (request b : List ℕ) (meets : Meets m request b) (a : Asks v request) (seen : readIn (seenBy v m request) request ≡ Items (a .first) (a .count)) where
     abbrev its : List Item
     its = runItems (v .seen) (a .first) (a .count)
 
@@ -105,14 +118,18 @@ module _ (v : View) (good : T (passes v)) where
     h = hears request (a .hears)
 
     answers : Answers m request b
-    answers = record { heeds = record { within = meets .within; room = meets .room; heard = rw (meets .own) (h .loud) }; own = h .own }
+    answers = record { heeds = record { within = meets .within; room = meets .room; heard = ap (λ (x : ℕ). silence x request) (judged m request b meets) ∙ h .loud }; own = h .own }
+
+    -- the items that the meter sends are those of the whole directory
+    part : runItems (seenBy v m request .seen) (a .first) (a .count) ≡ its
+    part = whole v good (toSecond (m .given) request) request (a .first) (a .count) seen .run
 
     gives : Gives v m request reply m
-    gives = shows (a .first) (a .count) (h .read) (a .items) refl refl
+    gives = shows (a .first) (a .count) (h .read) seen (ap (λ (l : List Item). dataReply request (itemsSent (shownOf m) l)) (sym part)) refl
 
     pub replies : replyTo v m request b ≡ reply
     replies =
-        let o = obeys v good m request b .reads (a .first) (a .count) answers (h .read) (a .items) in
+        let o = obeys v good m request b .reads (a .first) (a .count) answers (h .read) seen ∙ ap (λ (l : List Item). sentOf (dataReply request (itemsSent (shownOf m) l)) m b) part in
         ap (λ (x : Outcome). replyIn (x .handled .reply) (x .buffer)) o ∙ sets-taken b reply (omega (arith, gives-long v good m request reply m gives, meets .room))
 
     -- ---- as the collector judges it
@@ -233,41 +250,80 @@ module _ (v : View) (good : T (passes v)) where
 
   module _ (m : Meter) (request b : List ℕ) (meets : Meets m request b) where
     -- what is given is a data reply, or has another function
-    from-data : (bytes : List ℕ) (n : Meter) → Answers m request b → isRead bytes ≡ true → Gives v m request bytes n → Asks v request
+    from-data : (bytes : List ℕ) (n : Meter) → Answers m request b → isRead bytes ≡ true → Gives v m request bytes n → Asks (seenBy v m request) request
     from-data bytes n ans h (other r w e k) = no-error request bytes Function e h
     from-data bytes n ans h (misread code r s e k) = no-error request bytes code e h
     from-data bytes n ans h (shows first count r s e k) =
-        let loud : silence (addressOf request) request ≡ false = rw (sym (meets .own)) (ans .heeds .heard) in
+        let loud : silence (addressOf request) request ≡ false = ap (λ (x : ℕ). silence x request) (sym (judged m request b meets)) ∙ ans .heeds .heard in
         record { hears = heard-so request (record { own = ans .own; read = r; loud = loud }); first = first; count = count; items = s }
     from-data bytes n ans h (miswritten code w j e k) = no-error request bytes code e h
-    from-data bytes n ans h (stores w j e k) = no-echo request bytes (omega (arith, shaped-length request (write-when m request .legal .0 j .0) .0)) w e h
+    from-data bytes n ans h (stores w j e k) = no-echo request bytes (omega (arith, shaped-length request (write-when m request .legal .0 j .0) .0)) (and-eq-true-iff (not (toSecond (m .given) request)) (isWrite request) .0 w .1) e h
 
-    from-reply : isRead (replyTo v m request b) ≡ true → Case v m request b → Asks v request
+    from-reply : isRead (replyTo v m request b) ≡ true → Case v m request b → Asks (seenBy v m request) request
     from-reply h (out w e) = absurd (false≢true (sym w ∙ meets .within))
     from-reply h (short w l e) = absurd (omega (arith, l, meets .room))
-    from-reply h (unheard w l s e) = no-read (sym (ap (λ (x : Outcome). isRead (replyIn (x .handled .reply) (x .buffer))) e) ∙ h)
+    from-reply h (unheeded w l s e) = no-read (sym (ap (λ (x : Outcome). isRead (replyIn (x .handled .reply) (x .buffer))) e) ∙ h)
     from-reply h (for-all bytes n w z g e) = no-read (sym (ap (λ (x : Outcome). isRead (replyIn (x .handled .reply) (x .buffer))) e) ∙ h)
     from-reply h (for-one bytes n w g e) =
         let said : replyTo v m request b ≡ bytes =
         ap (λ (x : Outcome). replyIn (x .handled .reply) (x .buffer)) e ∙ sets-taken b bytes (omega (arith, gives-long v good m request bytes n g, meets .room)) in
         from-data bytes n w (sym (ap isRead said) ∙ h) g
 
+    -- what the address named may ask for, as asked of the whole
+    abbrev asks : Asks (seenBy v m request) request → Asks v request
+    asks a = asked-whole (toSecond (m .given) request) a
+
+    same : Asks (seenBy v m request) request ↔ (isRead (replyTo v m request b) ≡ true)
+    same = (λ a. ap isRead (replies m request b meets (asks a) (a .items)) ∙ hears request (a .hears) .read, λ h. from-reply h (case v m request b))
+
+    -- at the own address that is all
+    all : addressOf request ≡ m .given .address → seenBy v m request ≡ v
+    all e = ap (viewFor v) (to-own (m .given) request (other-address m (meets .within)) e)
+
     pub with-data : WithData v m request b
-    with-data = record { same = (λ a. ap isRead (replies m request b meets a) ∙ hears request (a .hears) .read, λ h. from-reply h (case v m request b)) }
+    with-data = record { same = same; own = λ e. subst (λ (w : View). Asks w request ↔ (isRead (replyTo v m request b) ≡ true)) (all e) same }
+
+    -- what the whole directory answers with data, and the meter does not, has error 02
+    refuses : Asks v request → isRead (replyTo v m request b) ≡ false → readIn (seenBy v m request) request ≡ Error Address
+    refuses a h = by (toSecond (m .given) request) (λ i. false≢true (sym h ∙ same .0 (record { hears = a .hears; first = a .first; count = a .count; items = i })))
+      where
+        by : (tenant : Bool) → (readIn (viewFor v tenant) request ≡ Items (a .first) (a .count) → ⊥) → readIn (viewFor v tenant) request ≡ Error Address
+        by false n = absurd (n (a .items))
+        by true n = either (tenant-reads v good request .either)
+          where
+            either : (readIn (tenantOf v) request ≡ readIn v request) ⊎ (readIn (tenantOf v) request ≡ Error Address) → readIn (tenantOf v) request ≡ Error Address
+            either (inl e) = absurd (n (e ∙ a .items))
+            either (inr e) = e
+
+    refused : Asks v request → isRead (replyTo v m request b) ≡ false → replyTo v m request b ≡ errorBytes request 2
+    refused a h =
+        let hear = hears request (a .hears) in
+        let ans : Answers m request b = record { heeds = record { within = meets .within; room = meets .room; heard = ap (λ (x : ℕ). silence x request) (judged m request b meets) ∙ hear .loud }; own = hear .own } in
+        let o = frames-when v good m request b .error-02 .1 (ans, inl (hear .read, refuses a h)) in
+        ap (λ (x : Outcome). replyIn (x .handled .reply) (x .buffer)) o ∙ sets-taken b (errorBytes request 2) (omega (arith, meets .room))
 
     pub round-trip : RoundTrip v m request b
     round-trip = record {
-      reads = λ index typed a below. collects m request b meets a index below (typed-shows (v .seen) (passes-tested v good) (a .first + index) (known m request b meets a index below) m typed (meets .within));
-      past = λ index a over. ap (λ (reply : List ℕ). told (collectorIn v request reply (m .given .ratios) index)) (replies m request b meets a) ∙ past m request b meets a index over;
+      reads = λ index typed a below.
+          let w = asks a in
+          collects m request b meets w (a .items) index below (typed-shows (v .seen) (passes-tested v good) (a .first + index) (known m request b meets w (a .items) index below) m typed (meets .within))
+          ∙ ap (λ (it : Item). Reading (meaningOf m (it .quantity))) (sym (whole v good (toSecond (m .given) request) request (a .first) (a .count) (a .items) .item index below));
+      past = λ index a over. ap (λ (reply : List ℕ). told (collectorIn v request reply (m .given .ratios) index)) (replies m request b meets (asks a) (a .items)) ∙ past m request b meets (asks a) (a .items) index over;
       error = error-given request;
-      other = λ reply r index ok h. replies-when v good request reply r index .row-7 .1 (ok, λ a. false≢true (sym h ∙ with-data .same .0 a));
+      other = λ reply r index ok own h. replies-when v good request reply r index .row-7 .1 (ok, λ a. false≢true (sym h ∙ with-data .own own .0 a));
+      not-for-tenant = λ r index asked h. ap (λ (x : List ℕ). told (collectorIn v request x r index)) (refused (asked .asks) h) ∙ error-given request r index 2 asked (omega arith) (omega arith);
     }
 
   -- ---- a poll, told the ratios that the meter was given
 
   pub poll-reads : (m : Meter) {g : Given} → meterOk m ≡ true → m .given ≡ g → {q : ℕ} (p : Poll v g q) → Shows m q → collected v (g .ratios) m p ≡ Reading (meaningOf m q)
-  poll-reads m within given p fit =
-      let meets : Meets m (p .request) (p .buffer) = record { within = within; room = p .room; own = ap (λ (g : Given). g .address) given ∙ sym (p .own) } in
-      ap (λ (g : Given). collectorIn v (p .request) (replyTo v m (p .request) (p .buffer)) (g .ratios) (p .index)) (sym given)
-      ∙ collects m (p .request) (p .buffer) meets (p .asks) (p .index) (p .below) (rw (p .shows) fit)
-      ∙ ap (λ (x : ℕ). Reading (meaningOf m x)) (p .shows)
+  poll-reads m {g} within given {q} p fit =
+      let tenant = toSecond g (p .request) in
+      let same = ap (λ (x : Given). toSecond x (p .request)) given in
+      let meets : Meets m (p .request) (p .buffer) = record { within = within; room = p .room; named = subst (λ (x : Given). Names x (p .request)) (sym given) (p .named) } in
+      let seen : readIn (seenBy v m (p .request)) (p .request) ≡ Items (p .asks .first) (p .asks .count) = ap (λ (t : Bool). readIn (viewFor v t) (p .request)) same ∙ p .asks .items in
+      let item : itemAt v (asked-whole tenant (p .asks)) (p .index) .quantity ≡ q =
+      ap (λ (it : Item). it .quantity) (sym (whole v good tenant (p .request) (p .asks .first) (p .asks .count) (p .asks .items) .item (p .index) (p .below))) ∙ p .shows in
+      ap (λ (x : Given). collectorIn v (p .request) (replyTo v m (p .request) (p .buffer)) (x .ratios) (p .index)) (sym given)
+      ∙ collects m (p .request) (p .buffer) meets (asked-whole tenant (p .asks)) seen (p .index) (p .below) (rw item fit)
+      ∙ ap (λ (x : ℕ). Reading (meaningOf m x)) item

@@ -1,7 +1,7 @@
 -- What a heeded frame gives is what the board sends: whatever the buffer, sealed, 256 bytes at the most; and an error reply
 -- tells its code, and that nothing else was sent.
 use mathlib.Core.Path.{_≡_, refl, sym, ap, ap₂, _∙_}
-use mathlib.Core.Bool.{true, false}
+use mathlib.Core.Bool.{true, false, not}
 use mathlib.Core.List.{List, [], _∷_}
 use Prim.Native.Nat.{ℕ, _+_, _*_, _≤_}
 use native.Mathlib.Omega.{arith}
@@ -18,7 +18,7 @@ use Rattle.crc.proofs.Laws.{intact-is-sealed}
 use Rattle.directory.specs.declared.Span.the-variants.{Error}
 use Rattle.directory.specs.Run.{runItems}
 use Rattle.directory.specs.Views.{View, passes}
-use Rattle.modbus.specs.Frame.{addressOf, functionOf, wordNumber, isRead, isWrite}
+use Rattle.modbus.specs.Frame.{addressOf, functionOf, wordNumber, isRead}
 use Rattle.modbus.specs.Replies.{errorReply, echoReply}
 use Rattle.modbus.proofs.Frames.{shaped-length}
 use Rattle.modbus.proofs.Stores.{sets-front, sets-taken}
@@ -26,12 +26,13 @@ use Rattle.meter.specs.declared.Meter.{Meter}
 use Rattle.registers.specs.Shown.{shownOf}
 use Rattle.board.specs.declared.Reply.the-variants.{Sent}
 use Rattle.board.specs.Reads.{itemsSent, dataReply, readBytes}
-use Rattle.board.specs.Board.{Outcome, silentOf, sentOf, sentOrSilent, obeyedIn, boardIn}
-use Rattle.demands.specs.Frames.{Heeds, Answers, ReadErrs, WriteErrs}
+use Rattle.board.specs.Board.{Outcome, silentOf, sentOf, sentOrSilent, obeyedIn, toSecond, boardIn}
+use Rattle.demands.specs.Frames.{seenBy, writes, Heeds, Answers, ReadErrs, WriteErrs}
 use Rattle.board.proofs.Lengths.{echo-long, data-long}
 use Rattle.board.proofs.Cases.{board-obeys, obeys-other, obeys-read, obeys-write}
 use Rattle.store.specs.declared.Verdict.the-variants.{Wrong}
 use Rattle.store.proofs.Verdicts.{write-when}
+use Rattle.demands.proofs.Seen.{seen-passes}
 use Rattle.demands.proofs.Gives.{Gives}
 use Rattle.demands.proofs.Gives.Gives.{other, misread, shows, miswritten, stores}
 
@@ -84,18 +85,18 @@ module _ (v : View) (good : T (passes v)) where
   -- ---- what is given is sent
 
   module _ (m : Meter) (frame b : List ℕ) where
-    obeyed : Heeds m frame b → boardIn v m frame b ≡ obeyedIn v m frame b
+    obeyed : Heeds m frame b → boardIn v m frame b ≡ obeyedIn (seenBy v m frame) (not (toSecond (m .given) frame)) m frame b
     obeyed h = sym (board-obeys v m frame b (h .within) (le-ltb _ _ (h .room)) (h .heard))
 
     pub gives-reply : Heeds m frame b → (bytes : List ℕ) (n : Meter) → Gives v m frame bytes n → boardIn v m frame b ≡ sentOrSilent frame bytes n b
-    gives-reply h bytes n (other r w e k) = rw (e, k) (obeyed h ∙ sym (obeys-other v m frame b r w))
-    gives-reply h bytes n (misread code r s e k) = rw (e, k) (obeyed h ∙ sym (obeys-read v m frame b r) ∙ ap (λ (x : List ℕ). sentOrSilent frame x m b) (ap (readBytes v (shownOf m) frame) s))
-    gives-reply h bytes n (shows first count r s e k) = rw (e, k) (obeyed h ∙ sym (obeys-read v m frame b r) ∙ ap (λ (x : List ℕ). sentOrSilent frame x m b) (ap (readBytes v (shownOf m) frame) s))
+    gives-reply h bytes n (other r w e k) = rw (e, k) (obeyed h ∙ sym (obeys-other (seenBy v m frame) (not (toSecond (m .given) frame)) m frame b r w))
+    gives-reply h bytes n (misread code r s e k) = rw (e, k) (obeyed h ∙ sym (obeys-read (seenBy v m frame) (not (toSecond (m .given) frame)) m frame b r) ∙ ap (λ (x : List ℕ). sentOrSilent frame x m b) (ap (readBytes (seenBy v m frame) (shownOf m) frame) s))
+    gives-reply h bytes n (shows first count r s e k) = rw (e, k) (obeyed h ∙ sym (obeys-read (seenBy v m frame) (not (toSecond (m .given) frame)) m frame b r) ∙ ap (λ (x : List ℕ). sentOrSilent frame x m b) (ap (readBytes (seenBy v m frame) (shownOf m) frame) s))
     gives-reply h bytes n (miswritten code w j e k) =
-        let o = obeyed h ∙ sym (obeys-write v m frame b w) in
+        let o = obeyed h ∙ sym (obeys-write (seenBy v m frame) (not (toSecond (m .given) frame)) m frame b w) in
         rw (e, k) (o ∙ rw (write-when m frame .kept code j, j) refl)
     gives-reply h bytes n (stores w j e k) =
-        let o = obeyed h ∙ sym (obeys-write v m frame b w) in
+        let o = obeyed h ∙ sym (obeys-write (seenBy v m frame) (not (toSecond (m .given) frame)) m frame b w) in
         rw (e, k) (o ∙ rw (write-when m frame .stored j, j) refl)
 
     pub gives-sent : Answers m frame b → (bytes : List ℕ) (n : Meter) → Gives v m frame bytes n → boardIn v m frame b ≡ sentOf bytes n b
@@ -109,7 +110,7 @@ module _ (v : View) (good : T (passes v)) where
   pub gives-long : (m : Meter) (frame bytes : List ℕ) (n : Meter) → Gives v m frame bytes n → length bytes ≤ 256
   gives-long m frame bytes n (other r w e k) = rw e (omega arith)
   gives-long m frame bytes n (misread code r s e k) = rw e (omega arith)
-  gives-long m frame bytes n (shows first count r s e k) = rw e (data-long v good (shownOf m) frame first count s)
+  gives-long m frame bytes n (shows first count r s e k) = rw e (data-long (seenBy v m frame) (seen-passes v good m frame) (shownOf m) frame first count s)
   gives-long m frame bytes n (miswritten code w j e k) = rw e (omega arith)
   gives-long m frame bytes n (stores w j e k) = rw e (echo-long frame)
 
@@ -117,7 +118,7 @@ module _ (v : View) (good : T (passes v)) where
   gives-sealed m frame bytes n (other r w e k) = error-sealed frame Function bytes e
   gives-sealed m frame bytes n (misread code r s e k) = error-sealed frame code bytes e
   gives-sealed m frame bytes n (shows first count r s e k) =
-      record { before = addressOf frame ∷ functionOf frame ∷ 2 * wordNumber frame ∷ itemsSent (shownOf m) (runItems (v .seen) first count); is = e }
+      record { before = addressOf frame ∷ functionOf frame ∷ 2 * wordNumber frame ∷ itemsSent (shownOf m) (runItems (seenBy v m frame .seen) first count); is = e }
   gives-sealed m frame bytes n (miswritten code w j e k) = error-sealed frame code bytes e
   gives-sealed m frame bytes n (stores w j e k) = record { before = take 6 frame; is = e }
 
@@ -127,15 +128,15 @@ module _ (v : View) (good : T (passes v)) where
   -- ---- what led to an error reply
 
   pub data Faults (code : ErrorCode) (m : Meter) (frame : List ℕ) : Type 0 where
-    unknown : isRead frame ≡ false → isWrite frame ≡ false → Function ≡ code → Faults code m frame
-    bad-read : ReadErrs v code frame → Faults code m frame
+    unknown : isRead frame ≡ false → writes m frame ≡ false → Function ≡ code → Faults code m frame
+    bad-read : ReadErrs (seenBy v m frame) code frame → Faults code m frame
     bad-write : WriteErrs code m frame → Faults code m frame
 
   pub faults : (m : Meter) (frame bytes : List ℕ) (n : Meter) (code : ErrorCode) → Gives v m frame bytes n → bytes ≡ errorReply frame code → Faults code m frame
   faults m frame bytes n code (other r w e k) h = unknown r w (one-code frame Function code (sym e ∙ h))
   faults m frame bytes n code (misread c r s e k) h = bad-read (r, s ∙ ap Error (one-code frame c code (sym e ∙ h)))
   faults m frame bytes n code (shows first count r s e k) h =
-      not-data frame (itemsSent (shownOf m) (runItems (v .seen) first count)) code (sym e ∙ h)
+      not-data frame (itemsSent (shownOf m) (runItems (seenBy v m frame .seen) first count)) code (sym e ∙ h)
   faults m frame bytes n code (miswritten c w j e k) h = bad-write (w, j ∙ ap Wrong (one-code frame c code (sym e ∙ h)))
   faults m frame bytes n code (stores w j e k) h =
       not-echo frame code (omega (arith, shaped-length frame (write-when m frame .legal .0 j .0) .0)) (sym e ∙ h)

@@ -14,10 +14,10 @@ use Rattle.ratio.specs.Steps.{stepOf}
 use Rattle.counts.specs.Counting.{energyOf, joinOf, joinHalvesOf}
 use Rattle.directory.specs.Quantity.{quantity, energyCount, wrap, low, high}
 use Rattle.directory.specs.Views.{View}
-use Rattle.modbus.specs.Frame.{addressOf}
 use Rattle.reading.specs.declared.Quantity.the-variants as read
 use Rattle.reading.specs.declared.Answer.{Answer}
 use Rattle.reading.specs.declared.Answer.the-variants.{Reading}
+use Rattle.board.specs.Board.{toSecond, viewFor}
 use Rattle.collector.specs.Collector.{collectorIn}
 use Rattle.collector.specs.When.{Asks, itemAt}
 use Rattle.meter.specs.declared.Answer.the-variants.{Accepted}
@@ -25,7 +25,7 @@ use Rattle.meter.specs.declared.given.Given.{Given}
 use Rattle.meter.specs.declared.Meter.{Meter}
 use Rattle.meter.specs.Meters.{newOf}
 use Rattle.demands.specs.Histories.{Event, afterAll, exactOf, anyTaken}
-use Rattle.demands.specs.RoundTrip.{replyTo}
+use Rattle.demands.specs.RoundTrip.{Names, replyTo}
 
 -- a figure in Wh is never above an exact energy, and below it by less than one step
 pub record Bounds (exact step wh : ℕ) : Type 0 where
@@ -55,16 +55,17 @@ module _ (v : View) where
   abbrev pub exactAt : ℕ → History → ℕ
   exactAt e h = exactOf v e (newOf (h .given) .meter) (h .events)
 
-  -- a read of a quantity: a request for a meter that is answered with data, room for the reply, and the index of an item that shows it
+  -- a read of a quantity: a request for a meter, by either of its addresses, that is answered with data, room for the reply, and the
+  -- index of an item that shows it
   pub record Poll (g : Given) (quantity : ℕ) : Type 0 where
     pub request : List ℕ
     pub buffer : List ℕ
     pub index : ℕ
-    pub asks : Asks v request
-    pub own : addressOf request ≡ g .address
+    pub asks : Asks (viewFor v (toSecond g request)) request
+    pub named : Names g request
     pub room : 256 ≤ length buffer
     pub below : index < asks .count
-    pub shows : itemAt v asks index .quantity ≡ quantity
+    pub shows : itemAt (viewFor v (toSecond g request)) asks index .quantity ≡ quantity
 
   -- what the collector, told some ratios, makes of a meter's reply
   abbrev pub collected : {g : Given} {quantity : ℕ} → Ratios → Meter → Poll g quantity → Answer

@@ -1,9 +1,9 @@
--- Paper 01, "What the meter does with a frame": when each answer is given, and what stays as it was. Paper 02, request 1: when a frame
--- opens a new window.
+-- Paper 01, "What the meter does with a frame": when each answer is given, and what stays as it was, at the own address and at the second
+-- (paper 02, request 3) alike. Request 1: when a frame opens a new window.
 use mathlib.Core.Path.{_≡_}
 use mathlib.Core.Logic.{_↔_, _⊎_}
 use Prim.Native.Nat.{ℕ, _≤_, _<_}
-use mathlib.Core.Bool.{true, false}
+use mathlib.Core.Bool.{Bool, true, false, _&&_, not}
 use mathlib.Core.List.{List}
 use lib.ListN.{length, take, drop}
 use Rattle.refusal.specs.declared.Refusal.{Refusal}
@@ -27,30 +27,43 @@ use Rattle.board.specs.Reads.{itemsSent, dataReply}
 use Rattle.registers.specs.Shown.{shownOf}
 use Rattle.store.specs.declared.Verdict.the-variants.{Good, Wrong}
 use Rattle.store.specs.Writes.{toStandard, replacedIn, storedOf, writtenOf}
-use Rattle.board.specs.Board.{Outcome, replyTold, silentOf, sentOf, boardIn}
+use Rattle.board.specs.Board.{Outcome, replyTold, silentOf, sentOf, toSecond, addressFor, viewFor, boardIn}
+
+-- 2. silence: fewer than 4 or more than 256 bytes; wrong CRC; address neither 0 nor the one that the frame is judged by; function 0x80
+-- or above
+abbrev pub unheard : Meter → List ℕ → Bool
+unheard m frame = silence (addressFor (m .given) (toSecond (m .given) frame)) frame
+
+-- the items that the frame may ask for: at the second address those for a tenant, else all
+abbrev pub seenBy : View → Meter → List ℕ → View
+seenBy v m frame = viewFor v (toSecond (m .given) frame)
+
+-- a frame that is a write: to the second address there is none
+abbrev pub writes : Meter → List ℕ → Bool
+writes m frame = not (toSecond (m .given) frame) && isWrite frame
 
 -- the meter heeds a frame: steps 1 and 2 are passed
 pub record Heeds (m : Meter) (frame buffer : List ℕ) : Type 0 where
   pub within : meterOk m ≡ true
   pub room : 256 ≤ length buffer
-  pub heard : silence (m .given .address) frame ≡ false
+  pub heard : unheard m frame ≡ false
 
--- the meter heeds a frame that is for this meter alone
+-- the meter heeds a frame that is for this meter alone, whichever of its addresses it names
 pub record Answers (m : Meter) (frame buffer : List ℕ) : Type 0 where
   pub heeds : Heeds m frame buffer
   pub own : addressOf frame ≡ 0 → ⊥
 
 -- a write that an error code is due to
 abbrev pub WriteErrs : ErrorCode → Meter → List ℕ → Type 0
-WriteErrs code m frame = (isWrite frame ≡ true) × (writtenOf m frame .verdict ≡ Wrong code)
+WriteErrs code m frame = (writes m frame ≡ true) × (writtenOf m frame .verdict ≡ Wrong code)
 
 -- 2. silence; to address 0 it is kept always
 abbrev pub Quiet : Meter → List ℕ → Type 0
-Quiet m frame = (silence (m .given .address) frame ≡ true) ⊎ (addressOf frame ≡ 0)
+Quiet m frame = (unheard m frame ≡ true) ⊎ (addressOf frame ≡ 0)
 
 -- a legal write
 abbrev pub Stores : Meter → List ℕ → Type 0
-Stores m frame = (isWrite frame ≡ true) × (writtenOf m frame .verdict ≡ Good)
+Stores m frame = (writes m frame ≡ true) × (writtenOf m frame .verdict ≡ Good)
 
 -- a read that an error code is due to
 abbrev pub ReadErrs : View → ErrorCode → List ℕ → Type 0
@@ -94,16 +107,16 @@ module _ (v : View) (m : Meter) (frame b : List ℕ) where
     pub row-2 : FrameGives (refusedBy 2) ↔ ((meterOk m ≡ true) × (length b < 256))
     pub only : (n : ℕ) → FrameGives (refusedBy n) → (n ≡ 1) ⊎ (n ≡ 2)
     pub silent : (done .handled .reply ≡ Silent) ↔ ((meterOk m ≡ true) × (256 ≤ length b) × Quiet m frame)
-    pub error-01 : SendsError 1 ↔ (Answers m frame b × (isRead frame ≡ false) × (isWrite frame ≡ false))
-    pub error-02 : SendsError 2 ↔ (Answers m frame b × (ReadErrs v Address frame ⊎ WriteErrs Address m frame))
-    pub error-03 : SendsError 3 ↔ (Answers m frame b × (ReadErrs v Data frame ⊎ WriteErrs Data m frame))
+    pub error-01 : SendsError 1 ↔ (Answers m frame b × (isRead frame ≡ false) × (writes m frame ≡ false))
+    pub error-02 : SendsError 2 ↔ (Answers m frame b × (ReadErrs (seenBy v m frame) Address frame ⊎ WriteErrs Address m frame))
+    pub error-03 : SendsError 3 ↔ (Answers m frame b × (ReadErrs (seenBy v m frame) Data frame ⊎ WriteErrs Data m frame))
 
   -- STATEMENT: a read that is not wrong is answered with its items' words, and a legal write is stored and echoed; address 0: stored,
   -- and silence
   pub record Obeys : Type 0 where
     pub reads :
-        (first count : ℕ) → Answers m frame b → isRead frame ≡ true → readIn v frame ≡ Items first count →
-        done ≡ sentOf (dataReply frame (itemsSent (shownOf m) (runItems (v .seen) first count))) m b
+        (first count : ℕ) → Answers m frame b → isRead frame ≡ true → readIn (seenBy v m frame) frame ≡ Items first count →
+        done ≡ sentOf (dataReply frame (itemsSent (shownOf m) (runItems (seenBy v m frame .seen) first count))) m b
     pub writes : Answers m frame b → Stores m frame → done ≡ sentOf (echoReply frame) (storedOf m frame) b
     pub for-all : Heeds m frame b → addressOf frame ≡ 0 → Stores m frame → done ≡ silentOf (storedOf m frame) b
 
@@ -115,7 +128,7 @@ module _ (v : View) (m : Meter) (frame b : List ℕ) where
   -- reply stay; only a legal write that the meter heeds alters the record, and just so; address 0 never has a reply
   pub record Untouched : Type 0 where
     pub refused : (reason : Refusal) → done .handled .reply ≡ Refused reason → Same
-    pub unheard : silence (m .given .address) frame ≡ true → Same
+    pub unheard : unheard m frame ≡ true → Same
     pub silent : done .handled .reply ≡ Silent → done .buffer ≡ b
     pub beyond : (n : ℕ) → done .handled .reply ≡ Sent n → drop n (done .buffer) ≡ drop n b
     pub altered : (done .handled .meter ≡ m) ⊎ Altered m frame b (done .handled .meter)

@@ -1,12 +1,14 @@
 -- What `Demand3` and the other statements over histories ask for can be had, for every accepted new meter, any events, every item and
--- every own address: so they are not claims about nothing.
+-- every address: so they are not claims about nothing.
 use mathlib.Core.Path.{_≡_}
-use Prim.Native.Nat.{ℕ, _+_, _≤_, _<_}
+use Prim.Native.Nat.{ℕ, _+_, _<_}
 use mathlib.Core.Bool.{false}
 use mathlib.Core.List.{List, [], _∷_, map}
 use lib.ListN.{length, getD}
 use Rattle.directory.specs.Item.{none}
 use Rattle.directory.specs.Views.{View}
+use Rattle.directory.specs.Tenant.{tenantOf}
+use Rattle.modbus.specs.Frame.{addressOf}
 use Rattle.reading.specs.declared.Answer.the-variants.{Reading}
 use Rattle.meter.specs.declared.Answer.the-variants.{Accepted}
 use Rattle.meter.specs.declared.given.Given.{Given}
@@ -29,22 +31,27 @@ module _ (v : View) where
   HistoryOf g events between =
       (h : History v) × (h .given ≡ g) × (h .events ≡ events) × (h .between ≡ between)
 
-  -- a poll of the item of an index
-  abbrev pub ItemPoll : Given → ℕ → Type 0
-  ItemPoll g i = (p : Poll v g (getD (v .seen) i none .quantity)) × (p .asks .first + p .index ≡ i)
+  -- a poll of the item of an index, among some that are seen, at an address
+  abbrev pub ItemPoll : View → Given → ℕ → ℕ → Type 0
+  ItemPoll w g address i =
+      (p : Poll v g (getD (w .seen) i none .quantity)) × (p .asks .first + p .index ≡ i) × (addressOf (p .request) ≡ address)
 
   -- STATEMENT: a history for every accepted new meter, all events and any without an accepted sample between, as any frames are; a
-  -- poll for every item of the directory and every own address; events as a program hands them over
+  -- poll for every item of the directory at the own address, and for every item for a tenant at the second, where there is one; events
+  -- as a program hands them over
   pub record NotEmpty : Type 0 where
     pub history :
         (g : Given) (events between : List Event) → newOf g .answer ≡ Accepted →
         anyTaken v (afterAll v (newOf g .meter) events) between ≡ false → HistoryOf g events between
     pub idle : (m : Meter) (buffer : List ℕ) (fs : List (List ℕ)) → anyTaken v m (frames buffer fs) ≡ false
-    pub poll : (g : Given) (i : ℕ) → 1 ≤ g .address → i < length (v .seen) → ItemPoll g i
+    pub poll : (g : Given) (i : ℕ) → newOf g .answer ≡ Accepted → i < length (v .seen) → ItemPoll v g (g .address) i
+    pub tenant-poll :
+        (g : Given) (i : ℕ) → newOf g .answer ≡ Accepted → (g .second ≡ 0 → ⊥) → i < length (tenantOf v .seen) →
+        ItemPoll (tenantOf v) g (g .second) i
     pub typed : AllTyped (Event.sample noSample ∷ Event.frame (0 ∷ []) [] ∷ [])
 
   -- STATEMENT: the round trip over histories: from an accepted new meter, after any events as a program hands them over, every item
-  -- that can be polled, and each of the directory can, is read as its quantity, and never refused
+  -- that can be polled, at either address, is read as its quantity, and never refused
   pub record ReadsAlways : Type 0 where
     pub polls :
         (g : Given) (xs : List Event) → newOf g .answer ≡ Accepted → AllTyped xs →

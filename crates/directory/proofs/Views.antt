@@ -53,7 +53,7 @@ module _ (v : View) (h : T (passes v)) where
 
 -- ---- a run of a table that is lent
 
-seen-run : (its : List Item) (n first count : ℕ) → first + count ≤ n → runItems (take n its) first count ≡ runItems its first count
+pub seen-run : (its : List Item) (n first count : ℕ) → first + count ≤ n → runItems (take n its) first count ≡ runItems its first count
 seen-run its n zero count h = take-take count n its (omega (arith, h))
 seen-run its zero (suc first) count h = absurd (omega (arith, h))
 seen-run [] (suc n) (suc first) count h = refl

@@ -33,7 +33,7 @@ new : meterOk benchMeter ≡ true
 unfolding benchMeter
 new =
     let g = givenOf 1 (record { kta = 1; ktv = 10 }) in
-    made-within g (new-answers g .accepted .1 (refl, λ e. omega arith))
+    made-within g (new-answers g .accepted .1 (refl, λ e. omega arith, λ e. omega arith))
 
 within : (m : Meter) (line : List ℕ) → meterOk m ≡ true → meterOk (meterAfter m line) ≡ true
 unfolding meterAfter outcomeOf
