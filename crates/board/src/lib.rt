@@ -76,11 +76,7 @@ fn to_second(given: Given, frame: &[u8]) -> bool
 fn address_for(given: Given, tenant: bool) -> u8
     ensures { λ r. ⌜ r ≡ addressFor given tenant ⌝ }
 {
-    if tenant {
-        given.second
-    } else {
-        given.address
-    }
+    if tenant { given.second } else { given.address }
 }
 
 fn hand_back(meter: Meter, reply: Reply) -> Handled

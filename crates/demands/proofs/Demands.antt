@@ -7,10 +7,11 @@ use Rattle.lines.proofs.Texts.{text-back}
 use Rattle.ratio.proofs.Steps.{step-rows}
 use Rattle.counts.proofs.Joins.{join-split}
 use Rattle.directory.proofs.Rules.{directory-rules}
-use Rattle.own.proofs.Rules.{own-passes, three-tables, average-places, kinds-in-order}
+use Rattle.own.proofs.Rules.{own-passes, tenant-view, three-tables, average-places, kinds-in-order}
 use Rattle.directory.proofs.Bites.{tests-bite}
+use Rattle.directory.proofs.Tenant.{tenant-sees}
 use Rattle.directory.proofs.Sends.{run-sends}
-use Rattle.modbus.proofs.Judged.{read-when}
+use Rattle.modbus.proofs.Judged.{read-when, tenant-reads}
 use Rattle.reading.proofs.Told.{one-answer-each}
 use Rattle.collector.proofs.When as collector
 use Rattle.collector.proofs.Joins.{joins-when}
@@ -21,7 +22,7 @@ use Rattle.meter.proofs.Accepts.{new-answers, sample-answers, setup-idle, code-
 use Rattle.store.proofs.Verdicts.{write-when}
 use Rattle.registers.proofs.Widths.{every-case, setup-unseen}
 use Rattle.transcript.proofs.Written.{text-written}
-use Rattle.demands.specs.Demands.{Demand1, Ground, Replies, Readings, Demand2, Demands}
+use Rattle.demands.specs.Demands.{Demand1, Ground, Replies, Readings, Demand2, Tenants, Demands}
 use Rattle.demands.proofs.Frames as board
 use Rattle.demands.proofs.Polls.{with-data, round-trip}
 use Rattle.demands.proofs.Polled.{every-item-polled}
@@ -30,6 +31,7 @@ use Rattle.demands.proofs.Types.{types-kept}
 use Rattle.demands.proofs.NotEmpty.{not-empty, reads-always}
 use Rattle.demands.proofs.Demand3.{demand-3}
 use Rattle.demands.proofs.LastRows.{last-rows, last-ratios}
+use Rattle.demands.proofs.Tenant.{at-second, alters-nothing, answers-alike, unlike-but-alike, tenant-learns, counts-alone}
 use Rattle.demands.proofs.Fills.{averages-always}
 use Rattle.demands.proofs.Determined.{determined, numbered}
 use Rattle.demands.proofs.Starred.{examples-hold}
@@ -104,5 +106,18 @@ readings = record {
 pub demand-2 : Demand2
 demand-2 = record { ground = ground; replies = replies; readings = readings; determined = determined; examples = examples-hold; bench = text-written }
 
+pub tenants : Tenants
+tenants = record {
+  view = tenant-view;
+  sees = tenant-sees;
+  reads = tenant-reads;
+  frames = at-second;
+  alters-nothing = alters-nothing;
+  alike = answers-alike;
+  unlike = unlike-but-alike;
+  learns = tenant-learns;
+  counts = counts-alone;
+}
+
 pub demands : Demands
-demands = record { one = demand-1; two = demand-2; three = demand-3; polled = every-item-polled; not-empty = not-empty; tight = shut-out }
+demands = record { one = demand-1; two = demand-2; three = demand-3; polled = every-item-polled; not-empty = not-empty; tight = shut-out; tenants = tenants }

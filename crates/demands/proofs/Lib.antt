@@ -10,6 +10,7 @@ pub mod Types
 pub mod NotEmpty
 pub mod Demand3
 pub mod LastRows
+pub mod Tenant
 pub mod Averages
 pub mod Fills
 pub mod Determined

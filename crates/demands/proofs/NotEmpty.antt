@@ -48,8 +48,7 @@ module _ (v : View) (good : T (passes v)) where
   one-item : (tenant : Bool) (g : Given) (address i : ℕ) → 1 ≤ address → i < length (viewFor v tenant .seen) → toSecond g (requestFor address (getD (viewFor v tenant .seen) i none)) ≡ tenant → Names g (requestFor address (getD (viewFor v tenant .seen) i none)) → ItemPoll v (viewFor v tenant) g address i
   one-item tenant g address i some l whose named =
       let request = requestFor address (getD (viewFor v tenant .seen) i none) in
-      let same : toSecond g request ≡ tenant = whose in
-      (
+      let same : toSecond g request ≡ tenant = whose in (
         record {
           request = request;
           buffer = replicate 256 0;

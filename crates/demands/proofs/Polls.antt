@@ -211,6 +211,10 @@ module _ (v : View) (good : T (passes v)) where
       pub collects : Shows m (it .quantity) → collectorIn v request (replyTo v m request b) (m .given .ratios) index ≡ Reading (meaningOf m (it .quantity))
       collects fit = ap (λ (x : List ℕ). collectorIn v request x (m .given .ratios) index) replies ∙ reads fit
 
+      -- what the item shows stands in the reply
+      pub value-read : Shows m (it .quantity) → valueIn v a (replyTo v m request b) index ≡ shownOf m (it .quantity)
+      value-read fit = ap (λ (x : List ℕ). valueIn v a x index) replies ∙ value-back fit
+
     pub past : (index : ℕ) → a .count ≤ index → ReplyGives v request reply (m .given .ratios) index (refusedBy 12)
     unfolding fits
     past index over = replies-when v good request reply (m .given .ratios) index .row-12 .1 (record { fits = fits; past = over })

@@ -19,10 +19,11 @@ use Rattle.directory.specs.Order.{ruled, tested}
 use Rattle.directory.specs.Rules.{DirectoryRules}
 use Rattle.directory.specs.Run.{runIn, RunSends}
 use Rattle.directory.specs.Views.{View, passes}
-use Rattle.own.specs.OwnRules.{OwnPasses, ThreeTables, AveragePlaces}
+use Rattle.directory.specs.Tenant.{hides, TenantSees}
+use Rattle.own.specs.OwnRules.{OwnPasses, TenantView, ThreeTables, AveragePlaces}
 use Rattle.own.specs.Kinds.{KindsInOrder}
 use Rattle.directory.specs.Bites.{TestsBite}
-use Rattle.modbus.specs.Read.{ReadWhen}
+use Rattle.modbus.specs.Read.{ReadWhen, TenantReads}
 use Rattle.reading.specs.Told.{OneAnswerEach}
 use Rattle.collector.specs.When.{RepliesWhen, NotMisread, JoinsWhen}
 use Rattle.average.specs.declared.Average.{Average}
@@ -44,6 +45,7 @@ use Rattle.demands.specs.Histories.{TypesKept, AfterEvents, SetupIdleAlw
 use Rattle.demands.specs.Polled.{EveryItemPolled}
 use Rattle.demands.specs.Demand3.{Demand3}
 use Rattle.demands.specs.LastRows.{LastRows, LastRatios}
+use Rattle.demands.specs.Tenant.{AtSecond, TenantAltersNothing, AnswersAlike, TenantLearns, CountsAlone, UnlikeButAlike}
 use Rattle.demands.specs.Averages.{AveragesAlways}
 use Rattle.demands.specs.NotEmpty.{NotEmpty, ReadsAlways}
 use Rattle.demands.specs.Determined.{Determined, Numbered}
@@ -142,6 +144,20 @@ pub record Demand2 : Type 0 where
   pub examples : ExamplesHold
   pub bench : TextWritten
 
+-- STATEMENT: request 3, of the second address: what a tenant sees, what is done with its frames, that these alter nothing, that two meters
+-- which are alike answer it alike, and just what it learns; what a register is worth that it reads alone. (That every item for it is
+-- read as its quantity is in `RoundTrip`, `ReadsAlways` and `EveryItemPolled`, of either address.)
+pub record Tenants : Type 0 where
+  pub view : TenantView
+  pub sees : EveryView TenantSees
+  pub reads : EveryView (λ v. (frame : List ℕ) → TenantReads v frame)
+  pub frames : EveryFrame AtSecond
+  pub alters-nothing : EveryView TenantAltersNothing
+  pub alike : (v : View) → T (passes v) → T (hides v) → AnswersAlike v
+  pub unlike : UnlikeButAlike
+  pub learns : EveryView TenantLearns
+  pub counts : EveryView CountsAlone
+
 -- STATEMENT: the three; demand 3: one energy, read in any of the three places, is never above the exact energy of the samples
 -- accepted so far, and below it by less than one step. None of it is empty, and it leaves no room for the wrong meters that the
 -- paper names
@@ -152,3 +168,4 @@ pub record Demands : Type 0 where
   pub polled : EveryView EveryItemPolled
   pub not-empty : EveryView NotEmpty
   pub tight : EveryView ShutOut
+  pub tenants : Tenants

@@ -5,6 +5,7 @@ pub mod Polled
 pub mod Histories
 pub mod Demand3
 pub mod LastRows
+pub mod Tenant
 pub mod Averages
 pub mod NotEmpty
 pub mod Determined

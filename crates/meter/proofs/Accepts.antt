@@ -219,9 +219,9 @@ module _ (g : Given) where
       rw (blank-within g) (
         λ h. let t = new-made .0 h in (λ i. (sym (zero-no (g .address)) ∙ t .1) i && t .2 i && t .0 i),
         λ h.
-        let t = and-eq-true-iff (leb 1 (g .address) && other-one) ratios .0 h in
-        let u = and-eq-true-iff (leb 1 (g .address)) other-one .0 (t .0) in
-        new-made .1 (t .1, zero-no (g .address) ∙ u .0, u .1),
+            let t = and-eq-true-iff (leb 1 (g .address) && other-one) ratios .0 h in
+            let u = and-eq-true-iff (leb 1 (g .address)) other-one .0 (t .0) in
+            new-made .1 (t .1, zero-no (g .address) ∙ u .0, u .1),
       )
 
   -- an accepted meter is within limits

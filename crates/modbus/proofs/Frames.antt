@@ -1,5 +1,5 @@
 -- The tests of a frame, by what the code finds first.
-use mathlib.Core.Path.{_≡_, refl, sym}
+use mathlib.Core.Path.{_≡_, refl, sym, ap}
 use mathlib.Core.Bool.{Bool, true, false, _&&_, _||_, not, false≢true, and-eq-true-iff}
 use mathlib.Core.List.{List}
 use Prim.Native.Nat.{ℕ, _*_, _+_, _≤_, _<_}
@@ -21,6 +21,10 @@ any a b c d = a || b || c || d
 
 first : (a b c d : Bool) → a ≡ true → true ≡ any a b c d
 first a b c d h = rw h refl
+
+damage : (a b c d : Bool) → b ≡ true → true ≡ any a b c d
+damage true b c d h = refl
+damage false b c d h = rw h refl
 
 third : (a b c d : Bool) → c ≡ true → true ≡ any a b c d
 third true true c d h = refl
@@ -52,6 +56,10 @@ module _ (own : ℕ) (frame : List ℕ) where
   pub by-length : misfit ≡ true → true ≡ silence own frame
   unfolding silence
   by-length = first misfit (not (intact frame)) foreign (leb 0x80 (functionOf frame))
+
+  pub by-damage : intact frame ≡ false → true ≡ silence own frame
+  unfolding silence
+  by-damage h = damage misfit (not (intact frame)) foreign (leb 0x80 (functionOf frame)) (ap not h)
 
   pub by-address : foreign ≡ true → true ≡ silence own frame
   unfolding silence
