@@ -31,7 +31,7 @@ use Rattle.demands.proofs.Types.{types-kept}
 use Rattle.demands.proofs.NotEmpty.{not-empty, reads-always}
 use Rattle.demands.proofs.Demand3.{demand-3}
 use Rattle.demands.proofs.LastRows.{last-rows, last-ratios}
-use Rattle.demands.proofs.Tenant.{at-second, alters-nothing, answers-alike, unlike-but-alike, tenant-learns, counts-alone}
+use Rattle.demands.proofs.Tenant.{at-second, tenant-asks, alters-nothing, answers-alike, unlike-but-alike, tenant-learns, counts-alone}
 use Rattle.demands.proofs.Fills.{averages-always}
 use Rattle.demands.proofs.Determined.{determined, numbered}
 use Rattle.demands.proofs.Starred.{examples-hold}
@@ -112,6 +112,7 @@ tenants = record {
   sees = tenant-sees;
   reads = tenant-reads;
   frames = at-second;
+  asks = tenant-asks;
   alters-nothing = alters-nothing;
   alike = answers-alike;
   unlike = unlike-but-alike;

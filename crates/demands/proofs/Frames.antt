@@ -31,6 +31,7 @@ use Rattle.board.specs.declared.Reply.the-variants.{Silent, Sent, Refused}
 use Rattle.store.specs.Writes.{toStandard, storedOf, verdictTold}
 use Rattle.board.specs.Board.{Outcome, replyTold, boardIn}
 use Rattle.demands.specs.Frames.{unheard, seenBy, writes, Heeds, Answers, SendsError, ReadErrs, WriteErrs, Quiet, Stores, Altered, Opened, FrameGives, FramesWhen, Obeys, Untouched, WindowOpened, RepliesSealed, BufferUnseen}
+use Rattle.demands.specs.RoundTrip.{replyIn, replyTo}
 use Rattle.board.proofs.Lengths.{board-short}
 use Rattle.board.proofs.Cases.{board-1, board-2, board-silent}
 use Rattle.store.proofs.Verdicts.{write-when, write-within}
@@ -243,6 +244,18 @@ module _ (v : View) (good : T (passes v)) where
 
       beyond : drop k (boardIn v m frame b .buffer) ≡ drop k b
       beyond = rw (s .after, ← s .long) (sent-beyond (s .bytes) b within-buffer)
+
+    -- a reply that was sent, as it stands at the start of the buffer
+    pub record Sent-bytes : Type 0 where
+      pub bytes : List ℕ
+      pub next : Meter
+      pub gives : Gives v m frame bytes next
+      pub reply : replyTo v m frame b ≡ bytes
+
+    pub sent-reply : (k : ℕ) → said (boardIn v m frame b) ≡ Sent k → Sent-bytes
+    sent-reply k r =
+        let s = sent (case v m frame b) k r in
+        record { bytes = s .bytes; next = s .next; gives = s .gives; reply = ap (λ (x : Reply). replyIn x (boardIn v m frame b .buffer)) r ∙ front k s }
 
     altered : Case v m frame b → Kept m frame b (boardIn v m frame b .handled .meter)
     altered (out h e) = inl (ap (λ (o : Outcome). o .handled .meter) e)

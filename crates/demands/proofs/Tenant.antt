@@ -12,6 +12,7 @@ use lib.ListN.{length, getD, replicate}
 use borrow.Author.Tests.{le-ltb, lt-ltb, le-leb, lt-leb, ltb-false, leb-false, eq-eqb, ne-eqb, not-true}
 use Rattle.refusal.specs.declared.ErrorCode.the-variants.{Function}
 use Rattle.crc.specs.Crc.{intact}
+use Rattle.crc.proofs.Laws.{intact-is-sealed}
 use Rattle.words.specs.Words.{sent}
 use Rattle.ratio.specs.Ratios.{tOf}
 use Rattle.ratio.specs.Powers.{powerLimit}
@@ -56,13 +57,13 @@ use Rattle.demands.specs.RoundTrip.{replyIn, replyTo, Meets}
 use Rattle.demands.specs.Polled.{requestFor}
 use Rattle.demands.specs.Histories.{Event, afterEvent, afterAll}
 use Rattle.demands.specs.Demand3.{History, sooner, exactAt, Poll, collected}
-use Rattle.demands.specs.Tenant.{Alike, Sound, withoutTenant, FromTenant, AtSecond, TenantAltersNothing, SameReply, SameToTenant, ShowTheSame, AnswersAlike, TenantLearns, CountAlone, CountsAlone, plainMeter, otherMeter, UnlikeButAlike}
+use Rattle.demands.specs.Tenant.{Alike, Sound, withoutTenant, FromTenant, AtSecond, TenantAsks, TenantAltersNothing, SameReply, SameToTenant, ShowTheSame, AnswersAlike, TenantLearns, CountAlone, CountsAlone, plainMeter, otherMeter, UnlikeButAlike}
 use Rattle.demands.proofs.Seen.{second-named, second-some, to-second}
 use Rattle.demands.proofs.Gives.{Gives, Case, case}
 use Rattle.demands.proofs.Gives.Gives.{other, misread, shows, miswritten, stores}
 use Rattle.demands.proofs.Gives.Case.{out, short, unheeded, for-all, for-one}
 use Rattle.demands.proofs.Replies.{gives-sent, gives-long}
-use Rattle.demands.proofs.Frames.{untouched}
+use Rattle.demands.proofs.Frames.{untouched, sent-reply}
 use Rattle.demands.proofs.Polls.{asked-whole, value-read}
 use Rattle.demands.proofs.Polled.{asked-alone}
 use Rattle.demands.proofs.Histories.{after-events}
@@ -219,11 +220,11 @@ module _ (v : View) (good : T (passes v)) where
     request = requestFor address it
 
     -- a read of the items for a tenant, and so of the whole directory
-    abbrev tenant-asks : Asks (tenantOf v) request
-    tenant-asks = asked-alone (tenantOf v) (tenant-passes v good) address i (pos-of-ne-zero some) l
+    abbrev tenant-read : Asks (tenantOf v) request
+    tenant-read = asked-alone (tenantOf v) (tenant-passes v good) address i (pos-of-ne-zero some) l
 
     abbrev asks : Asks v request
-    asks = asked-whole v good true tenant-asks
+    asks = asked-whole v good true tenant-read
 
     stands : (x : Meter) → meterOk x ≡ true → Typed x → address ≡ x .given .second → valueIn v asks (replyTo v x request b) 0 ≡ shownOf x (it .quantity)
     stands x ok typed e =
@@ -231,7 +232,7 @@ module _ (v : View) (good : T (passes v)) where
         let place : i + 0 ≡ i = omega arith in
         let here : getD (v .seen) (i + 0) none ≡ it = ap (λ (k : ℕ). getD (v .seen) k none) place ∙ sym (tenant-sees v good .same i l) in
         let known : i + 0 < length (v .seen) = omega (arith, l, tenant-long v, leading-most forTenant (v .seen)) in
-        let seen : readIn (seenBy v x request) request ≡ Items i 1 = ap (λ (w : View). readIn w request) (second-seen x request t v) ∙ tenant-asks .items in
+        let seen : readIn (seenBy v x request) request ≡ Items i 1 = ap (λ (w : View). readIn w request) (second-seen x request t v) ∙ tenant-read .items in
         value-read v good x request b (record { within = ok; room = room; named = inr t }) asks seen 0 (omega arith) (typed-shows (v .seen) (passes-tested v good) (i + 0) known x typed ok)
         ∙ ap (λ (y : Item). shownOf x (y .quantity)) here
 
@@ -287,8 +288,28 @@ module _ (v : View) (good : T (passes v)) where
         ∙ sym (obeys-read (viewFor v (toSecond (m .given) frame)) (not (toSecond (m .given) frame)) m frame b read)
         ∙ rw (ne-eqb (addressOf frame) 0 (a .own)) (ap (λ (w : View). sentOf (readReply w (shownOf m) frame) m b) (second-seen m frame t v))
 
+    -- a reply begins with the address of the frame
+    begins : (bytes : List ℕ) (x : Meter) → Gives v m frame bytes x → addressOf bytes ≡ addressOf frame
+    begins bytes x (other r w e k) = ap addressOf e
+    begins bytes x (misread code r s e k) = ap addressOf e
+    begins bytes x (shows first count r s e k) = ap addressOf e
+    begins bytes x (miswritten code w j e k) = absurd (false≢true (sym (second-reads m frame t) ∙ w))
+    begins bytes x (stores w j e k) = absurd (false≢true (sym (second-reads m frame t) ∙ w))
+
+    address : (n : ℕ) → boardIn v m frame b .handled .reply ≡ Sent n → addressOf (replyTo v m frame b) ≡ m .given .second
+    address n e =
+        let s = sent-reply v good m frame b n e in
+        ap addressOf (s .reply) ∙ begins (s .bytes) (s .next) (s .gives) ∙ second-named (m .given) frame t
+
   pub at-second : (m : Meter) (frame b : List ℕ) → AtSecond v m frame b
-  at-second m frame b = record { damaged = damaged m frame b; high = too-high m frame b; unknown = unknown m frame b; reads = reads m frame b }
+  at-second m frame b = record { damaged = damaged m frame b; high = too-high m frame b; unknown = unknown m frame b; reads = reads m frame b; address = address m frame b }
+
+  pub tenant-asks : TenantAsks v
+  unfolding meterOk sampleOk inForce powerLimit averageOk codedMinutes groupOk wordOk
+  tenant-asks = record {
+    from = λ f. record { within = refl; room = omega arith; second = refl };
+    sound = λ f. record { least = omega arith; most = omega arith; crc = intact-is-sealed .passes (9 ∷ f ∷ []) };
+  }
 
   -- ---- it alters nothing
 

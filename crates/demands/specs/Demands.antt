@@ -45,7 +45,7 @@ use Rattle.demands.specs.Histories.{TypesKept, AfterEvents, SetupIdleAlw
 use Rattle.demands.specs.Polled.{EveryItemPolled}
 use Rattle.demands.specs.Demand3.{Demand3}
 use Rattle.demands.specs.LastRows.{LastRows, LastRatios}
-use Rattle.demands.specs.Tenant.{AtSecond, TenantAltersNothing, AnswersAlike, TenantLearns, CountsAlone, UnlikeButAlike}
+use Rattle.demands.specs.Tenant.{AtSecond, TenantAsks, TenantAltersNothing, AnswersAlike, TenantLearns, CountsAlone, UnlikeButAlike}
 use Rattle.demands.specs.Averages.{AveragesAlways}
 use Rattle.demands.specs.NotEmpty.{NotEmpty, ReadsAlways}
 use Rattle.demands.specs.Determined.{Determined, Numbered}
@@ -152,6 +152,7 @@ pub record Tenants : Type 0 where
   pub sees : EveryView TenantSees
   pub reads : EveryView (λ v. (frame : List ℕ) → TenantReads v frame)
   pub frames : EveryFrame AtSecond
+  pub asks : EveryView TenantAsks
   pub alters-nothing : EveryView TenantAltersNothing
   pub alike : (v : View) → T (passes v) → T (hides v) → AnswersAlike v
   pub unlike : UnlikeButAlike

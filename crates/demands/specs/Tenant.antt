@@ -6,7 +6,7 @@ use Prim.Native.Nat.{ℕ, _+_, _*_, _≤_, _<_}
 use mathlib.Core.Bool.{true, false, cond}
 use mathlib.Core.List.{List, [], _∷_, _++_}
 use lib.ListN.{length, getD, replicate}
-use Rattle.crc.specs.Crc.{intact}
+use Rattle.crc.specs.Crc.{sealed, intact}
 use Rattle.ratio.specs.Ratios.{tOf}
 use Rattle.ratio.specs.Steps.{stepOf}
 use Rattle.counts.specs.declared.Count.{Count}
@@ -15,7 +15,7 @@ use Rattle.directory.specs.Item.{none}
 use Rattle.directory.specs.Quantity.{quantity, energyCount}
 use Rattle.directory.specs.Views.{View}
 use Rattle.directory.specs.Tenant.{tenantOf}
-use Rattle.modbus.specs.Frame.{functionOf}
+use Rattle.modbus.specs.Frame.{addressOf, functionOf}
 use Rattle.modbus.specs.Replies.{errorBytes}
 use Rattle.reading.specs.declared.Quantity.the-variants as read
 use Rattle.reading.specs.declared.Answer.{Answer}
@@ -30,6 +30,7 @@ use Rattle.meter.specs.Energies.{noCounters}
 use Rattle.meter.specs.Meters.{meterOk, energyAt}
 use Rattle.registers.specs.Shown.{shownOf}
 use Rattle.registers.specs.Typed.{Typed}
+use Rattle.board.specs.declared.Reply.the-variants.{Sent}
 use Rattle.board.specs.Reads.{readReply}
 use Rattle.board.specs.Board.{Outcome, silentOf, sentOf, toSecond, boardIn}
 use Rattle.demands.specs.Histories.{Event, afterAll}
@@ -52,6 +53,34 @@ pub record Sound (frame : List ℕ) : Type 0 where
   pub least : 4 ≤ length frame
   pub most : length frame ≤ 256
   pub crc : intact frame ≡ true
+
+-- a meter with second address 9, one second after new
+abbrev pub plainMeter : Meter
+plainMeter =
+    record {
+      given = record { address = 1; second = 9; ratios = record { kta = 1; ktv = 10 } };
+      counters = noCounters;
+      latest = noSample;
+      average = record { window = record { seconds = 1; sum = 0 }; last = 0; peak = 0 };
+      setup = noSetup;
+    }
+
+-- no whole Wh, but the largest remainders
+abbrev almost : Energies
+almost =
+    let e : Energy = record { wh = record { 0 = 0 }; remainder = 359999 } in
+    record { positive = e; negative = e }
+
+-- another, of another own address, with other remainders, another open sum and every setup word another
+abbrev pub otherMeter : Meter
+otherMeter =
+    record {
+      given = record { address = 2; second = 9; ratios = record { kta = 1; ktv = 10 } };
+      counters = record { active = almost; reactive = almost };
+      latest = noSample;
+      average = record { window = record { seconds = 1; sum = 100 }; last = 0; peak = 0 };
+      setup = record { standard = replicate 10 1 ++ (6 ∷ 3 ∷ 10 ∷ 10 ∷ 10 ∷ 1 ∷ []); output = replicate 21 1 ++ (5 ∷ 6 ∷ 1 ∷ []) };
+    }
 
 -- some events without the frames to the second address
 unfoldable pub withoutTenant : Given → List Event → List Event
@@ -77,7 +106,7 @@ module _ (v : View) where
       pub second : toSecond (m .given) frame ≡ true
 
     -- STATEMENT: one that is damaged, or has function 0x80 or above, is met with silence; any other function but 0x03 is error 01, whatever
-    -- the length; 0x03 is answered as ever, over the items for a tenant
+    -- the length; 0x03 is answered as ever, over the items for a tenant; and each reply is with that address
     pub record AtSecond : Type 0 where
       pub damaged : FromTenant → (length frame < 4) ⊎ (256 < length frame) ⊎ (intact frame ≡ false) → answered ≡ silentOf m b
       pub high : FromTenant → 0x80 ≤ functionOf frame → answered ≡ silentOf m b
@@ -86,6 +115,12 @@ module _ (v : View) where
           answered ≡ sentOf (errorBytes frame 1) m b
       pub reads :
           FromTenant → Sound frame → functionOf frame ≡ 0x03 → answered ≡ sentOf (readReply (tenantOf v) (shownOf m) frame) m b
+      pub address : FromTenant → (n : ℕ) → answered .handled .reply ≡ Sent n → addressOf (replyTo v m frame b) ≡ m .given .second
+
+  -- STATEMENT: there are such frames, of every function and not damaged: four bytes
+  pub record TenantAsks : Type 0 where
+    pub from : (f : ℕ) → FromTenant plainMeter (sealed (9 ∷ f ∷ [])) (replicate 256 0)
+    pub sound : (f : ℕ) → Sound (sealed (9 ∷ f ∷ []))
 
   -- STATEMENT: no frame to the second address changes the record, whatever it is; so a meter's history is the same without them
   pub record TenantAltersNothing : Type 0 where
@@ -136,34 +171,6 @@ module _ (v : View) where
   CountsAlone =
       (h : History v) (e : ℕ) → e < 4 → (p : Poll v (h .given) (quantity energyCount e)) →
       CountAlone h e (collected v (h .given .ratios) (sooner v h) p)
-
--- a meter with second address 9, one second after new
-abbrev pub plainMeter : Meter
-plainMeter =
-    record {
-      given = record { address = 1; second = 9; ratios = record { kta = 1; ktv = 10 } };
-      counters = noCounters;
-      latest = noSample;
-      average = record { window = record { seconds = 1; sum = 0 }; last = 0; peak = 0 };
-      setup = noSetup;
-    }
-
--- no whole Wh, but the largest remainders
-abbrev almost : Energies
-almost =
-    let e : Energy = record { wh = record { 0 = 0 }; remainder = 359999 } in
-    record { positive = e; negative = e }
-
--- another, of another own address, with other remainders, another open sum and every setup word another
-abbrev pub otherMeter : Meter
-otherMeter =
-    record {
-      given = record { address = 2; second = 9; ratios = record { kta = 1; ktv = 10 } };
-      counters = record { active = almost; reactive = almost };
-      latest = noSample;
-      average = record { window = record { seconds = 1; sum = 100 }; last = 0; peak = 0 };
-      setup = record { standard = replicate 10 1 ++ (6 ∷ 3 ∷ 10 ∷ 10 ∷ 10 ∷ 1 ∷ []); output = replicate 21 1 ++ (5 ∷ 6 ∷ 1 ∷ []) };
-    }
 
 -- STATEMENT: there are two such meters: within limits, alike to a tenant, and unlike in all that it must not see
 pub record UnlikeButAlike : Type 0 where

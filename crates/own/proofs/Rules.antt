@@ -64,8 +64,8 @@ module _ (reach : Reach) (first : reach ≡ tenantReach) where
   }
 
 pub tenant-view : TenantView
-unfolding leading countOf every directory
-tenant-view = record { count = refl; bytes = refl; last-byte = refl; last-word = refl; hidden = tt }
+unfolding leading countOf placesOf every directory
+tenant-view = record { count = refl; bytes = refl; last-byte = refl; last-word = refl; registers = refl; hidden = tt }
 
 pub three-tables : ThreeTables
 unfolding placesOf directory

@@ -2,7 +2,7 @@
 use mathlib.Core.Path.{_≡_}
 use Prim.Native.Nat.{ℕ, suc}
 use mathlib.Core.Bool.{Bool, cond}
-use mathlib.Core.List.{List, [], _∷_}
+use mathlib.Core.List.{List, [], _∷_, map}
 use lib.Dec.{T, eqb}
 use lib.ListN.{length, getD}
 use Rattle.directory.specs.declared.Item.{Item}
@@ -39,13 +39,18 @@ unfoldable pub countOf : (Item → Bool) → List Item → ℕ
 countOf test [] = 0
 countOf test (it ∷ its) = cond (test it) (suc (countOf test its)) (countOf test its)
 
--- STATEMENT: a tenant sees 83 of the items (request 3), 46 of the byte block and 37 words, the last of them at 0x37a and 0x103d; none of
--- them shows a setup word, a wrap, an exact half or the identifier 0x1114
+-- the registers of the four energies among some items
+abbrev pub registersIn : List Item → List (List ℕ)
+registersIn its = map (λ (e : ℕ). placesOf (quantity energyCount e) its) (posEa ∷ posEr ∷ negEa ∷ negEr ∷ [])
+
+-- STATEMENT: a tenant sees 83 of the items (request 3), 46 of the byte block and 37 words, the last of them at 0x37a and 0x103d, and
+-- both registers of each energy; none of them shows a setup word, a wrap, an exact half or the identifier 0x1114
 pub record TenantView : Type 0 where
   pub count : length (tenantOf own .seen) ≡ 83
   pub bytes : countOf inBytes (tenantOf own .seen) ≡ 46
   pub last-byte : getD (tenantOf own .seen) 45 none .start ≡ 0x37a
   pub last-word : getD (tenantOf own .seen) 82 none .start ≡ 0x103d
+  pub registers : registersIn (tenantOf own .seen) ≡ registersIn directory
   pub hidden : T (hides own)
 
 -- STATEMENT: one energy stands in three tables
