@@ -31,7 +31,7 @@ use Rattle.demands.proofs.Types.{types-kept}
 use Rattle.demands.proofs.NotEmpty.{not-empty, reads-always}
 use Rattle.demands.proofs.Demand3.{demand-3}
 use Rattle.demands.proofs.LastRows.{last-rows, last-ratios}
-use Rattle.demands.proofs.Tenant.{at-second, tenant-asks, alters-nothing, answers-alike, unlike-but-alike, tenant-learns, counts-alone}
+use Rattle.demands.proofs.Tenant.{second-is-named, at-second, tenant-asks, alters-nothing, answers-alike, unlike-but-alike, tenant-learns, counts-alone}
 use Rattle.demands.proofs.Fills.{averages-always}
 use Rattle.demands.proofs.Determined.{determined, numbered}
 use Rattle.demands.proofs.Starred.{examples-hold}
@@ -111,6 +111,7 @@ tenants = record {
   view = tenant-view;
   sees = tenant-sees;
   reads = tenant-reads;
+  named = second-is-named;
   frames = at-second;
   asks = tenant-asks;
   alters-nothing = alters-nothing;

@@ -57,7 +57,7 @@ use Rattle.demands.specs.RoundTrip.{replyIn, replyTo, Meets}
 use Rattle.demands.specs.Polled.{requestFor}
 use Rattle.demands.specs.Histories.{Event, afterEvent, afterAll}
 use Rattle.demands.specs.Demand3.{History, sooner, exactAt, Poll, collected}
-use Rattle.demands.specs.Tenant.{Alike, Sound, withoutTenant, FromTenant, AtSecond, TenantAsks, TenantAltersNothing, SameReply, SameToTenant, ShowTheSame, AnswersAlike, TenantLearns, CountAlone, CountsAlone, plainMeter, otherMeter, UnlikeButAlike}
+use Rattle.demands.specs.Tenant.{Alike, NamesSecond, SecondNamed, Sound, withoutTenant, FromTenant, AtSecond, TenantAsks, TenantAltersNothing, SameReply, SameToTenant, ShowTheSame, AnswersAlike, TenantLearns, CountAlone, CountsAlone, plainMeter, otherMeter, UnlikeButAlike}
 use Rattle.demands.proofs.Seen.{second-named, second-some, to-second}
 use Rattle.demands.proofs.Gives.{Gives, Case, case}
 use Rattle.demands.proofs.Gives.Gives.{other, misread, shows, miswritten, stores}
@@ -135,6 +135,13 @@ module _ (m : Meter) (frame : List ℕ) (t : toSecond (m .given) frame ≡ true)
   named-some : addressOf frame ≡ 0 → ⊥
   named-some z = second-some (m .given) frame t (sym (second-named (m .given) frame t) ∙ z)
 
+named-second : (m : Meter) (frame : List ℕ) → NamesSecond m frame → toSecond (m .given) frame ≡ true
+named-second m frame h = to-second (m .given) frame (h .some) (h .named)
+
+pub second-is-named : (m : Meter) (frame : List ℕ) → SecondNamed m frame
+second-is-named m frame =
+    record { means = (λ t. record { some = second-some (m .given) frame t; named = second-named (m .given) frame t }, named-second m frame) }
+
 also-second : (m n : Meter) (frame : List ℕ) → m .given .second ≡ n .given .second → toSecond (m .given) frame ≡ true → toSecond (n .given) frame ≡ true
 also-second m n frame e t =
     to-second (n .given) frame (λ z. second-some (m .given) frame t (e ∙ z)) (second-named (m .given) frame t ∙ e)
@@ -201,7 +208,8 @@ module _ (v : View) (good : T (passes v)) where
           }
 
   no-more : (m n : Meter) → meterOk m ≡ true → meterOk n ≡ true → m .given .second ≡ n .given .second → ShowTheSame v m n → SameToTenant v m n
-  no-more m n hm hn e2 same frame a b t ra rb =
+  no-more m n hm hn e2 same frame a b named ra rb =
+      let t = named-second m frame named in
       same-reply m n same frame t (also-second m n frame e2 t) a b hm hn e2 ra rb (case v m frame a)
 
   pub answers-alike : T (hides v) → AnswersAlike v
@@ -242,9 +250,8 @@ module _ (v : View) (good : T (passes v)) where
       let room : 256 ≤ length b = omega arith in
       let address = m .given .second in
       let r = request address i some l b room in
-      let t : toSecond (m .given) r ≡ true = to-second (m .given) r some refl in
       sym (stands address i some l b room m hm tm refl)
-      ∙ ap (λ (reply : List ℕ). valueIn v (asks address i some l b room) reply 0) (same r b b t room room .bytes)
+      ∙ ap (λ (reply : List ℕ). valueIn v (asks address i some l b room) reply 0) (same r b b (record { some = some; named = refl }) room room .bytes)
       ∙ stands address i some l b room n hn tn e2
 
   pub tenant-learns : TenantLearns v
@@ -254,7 +261,7 @@ module _ (v : View) (good : T (passes v)) where
 
   module _ (m : Meter) (frame b : List ℕ) (from : FromTenant v m frame b) where
     t : toSecond (m .given) frame ≡ true
-    t = from .second
+    t = named-second m frame (from .second)
 
     kept-silent : silence (m .given .second) frame ≡ true → boardIn v m frame b ≡ silentOf m b
     kept-silent q = sym (board-silent v m frame b (from .within) (le-ltb _ _ (from .room)) (second-silence m frame t ∙ q))
@@ -307,7 +314,7 @@ module _ (v : View) (good : T (passes v)) where
   pub tenant-asks : TenantAsks v
   unfolding meterOk sampleOk inForce powerLimit averageOk codedMinutes groupOk wordOk
   tenant-asks = record {
-    from = λ f. record { within = refl; room = omega arith; second = refl };
+    from = λ f. record { within = refl; room = omega arith; second = record { some = λ z. omega (arith, z); named = refl } };
     sound = λ f. record { least = omega arith; most = omega arith; crc = intact-is-sealed .passes (9 ∷ f ∷ []) };
   }
 
@@ -337,7 +344,7 @@ module _ (v : View) (good : T (passes v)) where
       by false h skipped kept = kept
 
   pub alters-nothing : TenantAltersNothing v
-  alters-nothing = record { frame = tenant-kept; events = λ m xs. left-out (m .given) m xs refl }
+  alters-nothing = record { frame = λ m frame b named. tenant-kept m frame b (named-second m frame named); events = λ m xs. left-out (m .given) m xs refl }
 
   -- ---- a register alone
 

@@ -45,7 +45,7 @@ use Rattle.demands.specs.Histories.{TypesKept, AfterEvents, SetupIdleAlw
 use Rattle.demands.specs.Polled.{EveryItemPolled}
 use Rattle.demands.specs.Demand3.{Demand3}
 use Rattle.demands.specs.LastRows.{LastRows, LastRatios}
-use Rattle.demands.specs.Tenant.{AtSecond, TenantAsks, TenantAltersNothing, AnswersAlike, TenantLearns, CountsAlone, UnlikeButAlike}
+use Rattle.demands.specs.Tenant.{SecondNamed, AtSecond, TenantAsks, TenantAltersNothing, AnswersAlike, TenantLearns, CountsAlone, UnlikeButAlike}
 use Rattle.demands.specs.Averages.{AveragesAlways}
 use Rattle.demands.specs.NotEmpty.{NotEmpty, ReadsAlways}
 use Rattle.demands.specs.Determined.{Determined, Numbered}
@@ -144,13 +144,14 @@ pub record Demand2 : Type 0 where
   pub examples : ExamplesHold
   pub bench : TextWritten
 
--- STATEMENT: request 3, of the second address: what a tenant sees, what is done with its frames, that these alter nothing, that two meters
--- which are alike answer it alike, and just what it learns; what a register is worth that it reads alone. (That every item for it is
--- read as its quantity is in `RoundTrip`, `ReadsAlways` and `EveryItemPolled`, of either address.)
+-- STATEMENT: request 3, of the second address: what a tenant sees, which frames are its, what is done with them, that they alter nothing,
+-- that two meters which are alike answer it alike, and just what it learns; what a register is worth that it reads alone. (That every
+-- item for it is read as its quantity is in `RoundTrip`, `ReadsAlways` and `EveryItemPolled`, of either address.)
 pub record Tenants : Type 0 where
   pub view : TenantView
   pub sees : EveryView TenantSees
   pub reads : EveryView (λ v. (frame : List ℕ) → TenantReads v frame)
+  pub named : (m : Meter) (frame : List ℕ) → SecondNamed m frame
   pub frames : EveryFrame AtSecond
   pub asks : EveryView TenantAsks
   pub alters-nothing : EveryView TenantAltersNothing

@@ -48,6 +48,16 @@ pub record Alike (m n : Meter) : Type 0 where
   pub peak : m .average .peak ≡ n .average .peak
   pub seconds : m .average .window .seconds ≡ n .average .window .seconds
 
+-- a frame names a meter's second address, and there is one: not 0
+pub record NamesSecond (m : Meter) (frame : List ℕ) : Type 0 where
+  pub some : m .given .second ≡ 0 → ⊥
+  pub named : addressOf frame ≡ m .given .second
+
+-- STATEMENT: that is what the board takes for a frame to the second address, and no other: none to address 0, and none to a meter that has
+-- no second address
+pub record SecondNamed (m : Meter) (frame : List ℕ) : Type 0 where
+  pub means : (toSecond (m .given) frame ≡ true) ↔ NamesSecond m frame
+
 -- a frame that is not damaged
 pub record Sound (frame : List ℕ) : Type 0 where
   pub least : 4 ≤ length frame
@@ -103,7 +113,7 @@ module _ (v : View) where
     pub record FromTenant : Type 0 where
       pub within : meterOk m ≡ true
       pub room : 256 ≤ length b
-      pub second : toSecond (m .given) frame ≡ true
+      pub second : NamesSecond m frame
 
     -- STATEMENT: one that is damaged, or has function 0x80 or above, is met with silence; any other function but 0x03 is error 01, whatever
     -- the length; 0x03 is answered as ever, over the items for a tenant; and each reply is with that address
@@ -124,7 +134,7 @@ module _ (v : View) where
 
   -- STATEMENT: no frame to the second address changes the record, whatever it is; so a meter's history is the same without them
   pub record TenantAltersNothing : Type 0 where
-    pub frame : (m : Meter) (frame b : List ℕ) → toSecond (m .given) frame ≡ true → boardIn v m frame b .handled .meter ≡ m
+    pub frame : (m : Meter) (frame b : List ℕ) → NamesSecond m frame → boardIn v m frame b .handled .meter ≡ m
     pub events : (m : Meter) (xs : List Event) → afterAll v m xs ≡ afterAll v m (withoutTenant (m .given) xs)
 
   -- two meters give a frame the same answer and the same reply bytes, whatever the two buffers hold
@@ -135,7 +145,7 @@ module _ (v : View) where
   -- two meters answer every frame to the second address alike
   abbrev pub SameToTenant : Meter → Meter → Type 0
   SameToTenant m n =
-      (frame a b : List ℕ) → toSecond (m .given) frame ≡ true → 256 ≤ length a → 256 ≤ length b → SameReply m n frame a b
+      (frame a b : List ℕ) → NamesSecond m frame → 256 ≤ length a → 256 ≤ length b → SameReply m n frame a b
 
   -- two meters show a tenant the same
   abbrev pub ShowTheSame : Meter → Meter → Type 0

@@ -118,7 +118,11 @@ module _ (v : View) (good : T (passes v)) (frame : List ℕ) where
       by (inr h) = h
 
   pub tenant-reads : TenantReads v frame
-  tenant-reads = record { either = either; inside = inside; leaves = leaves }
+  tenant-reads = record {
+    either = either;
+    inside = λ first count e few. inside first count e (omega (arith, few));
+    leaves = λ first count e more. leaves first count e (omega (arith, more));
+  }
 
 -- ---- over a table that is lent
 
