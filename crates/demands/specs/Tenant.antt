@@ -153,8 +153,8 @@ module _ (v : View) where
       (i : ℕ) → i < length (tenantOf v .seen) →
       shownOf m (getD (tenantOf v .seen) i none .quantity) ≡ shownOf n (getD (tenantOf v .seen) i none .quantity)
 
-  -- STATEMENT: two meters within limits, alike in what request 3 names, answer every frame to the second address alike, however their setup,
-  -- own addresses and remainders differ. (Of a view that hides these: `hides`.)
+  -- STATEMENT: two meters within limits, alike in what request 3 names, answer every frame to the second address alike, however their
+  -- setup, own addresses and remainders differ. (Of a view that hides setup: `hides`.)
   pub record AnswersAlike : Type 0 where
     pub alike : (m n : Meter) → meterOk m ≡ true → meterOk n ≡ true → Alike m n → SameToTenant m n
 

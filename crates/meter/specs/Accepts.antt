@@ -1,5 +1,5 @@
--- Paper 01, "Refusal numbers": 3, 4 and 1 of a new meter; 1, 5 and 6 of a sample; each given exactly when its row says. And what setup words
--- have to do with samples: nothing, but for 0x200a and request 1's figures.
+-- Paper 01, "Refusal numbers": 3, 4 and 1 of a new meter; 1, 5 and 6 of a sample; each given exactly when its row says. And what setup
+-- words have to do with samples: nothing, but for 0x200a and request 1's figures.
 use mathlib.Core.Path.{_≡_}
 use mathlib.Core.Logic.{_↔_, _⊎_}
 use Prim.Native.Nat.{ℕ}
@@ -27,8 +27,8 @@ module _ (g : Given) where
   abbrev NewGives : List ℕ → Type 0
   NewGives numbers = answerTold (newOf g .answer) ≡ numbers
 
-  -- STATEMENT: a new meter is refused with 3, with 4 and with 1 exactly as their rows say, with no other number, and else accepted; the meter
-  -- handed back is the blank one of what was given, and within limits exactly when it is accepted
+  -- STATEMENT: a new meter is refused with 3, with 4 and with 1 exactly as their rows say, with no other number, and else accepted; the
+  -- meter handed back is the blank one of what was given, and within limits exactly when it is accepted
   pub record NewAnswers : Type 0 where
     pub row-3 : NewGives (refusedBy 3) ↔ (ratiosOk (g .ratios) ≡ false)
     pub row-4 : NewGives (refusedBy 4) ↔ ((ratiosOk (g .ratios) ≡ true) × (g .address ≡ 0))
@@ -79,7 +79,8 @@ module _ (m : Meter) (s : Sample) where
 abbrev pub at299 : ℕ → Meter
 at299 code =
     withSetup
-    (withAverage (blankOf (givenOf 1 (record { kta = 1; ktv = 10 }))) (record { window = record { seconds = 299; sum = 0 }; last = 0; peak = 0 }))
+    (withAverage (blankOf (givenOf 1 (record { kta = 1; ktv = 10 })))
+    (record { window = record { seconds = 299; sum = 0 }; last = 0; peak = 0 }))
     (withStandard noSetup (replicate 10 0 ++ (code ∷ replicate 5 0)))
 
 -- STATEMENT: 0x200a does have its effect: of two such meters, within limits and alike but for it, one closes its window with the next
