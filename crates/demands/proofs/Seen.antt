@@ -1,15 +1,14 @@
 -- Which address a frame is judged by, and what it may ask for: at the second address a part of what the whole directory has, item by item the same.
 use mathlib.Core.Path.{_≡_, refl, sym, ap, _∙_}
 use mathlib.Core.Logic.{_⊎_, inl, inr}
-use mathlib.Core.Bool.{Bool, true, false, _&&_, not, cond, false≢true, and-eq-true-iff}
+use mathlib.Core.Bool.{Bool, true, false, _&&_, not, and-eq-true-iff}
 use mathlib.Core.List.{List}
 use Prim.Native.Nat.{ℕ, _+_, _<_}
 use native.Mathlib.Omega.{arith}
 use lib.Dec.{T, eqb}
-use lib.ListN.{length, getD}
+use lib.ListN.{getD}
 use borrow.Author.Tests.{eqb-true, eqb-false, eq-eqb, ne-eqb, not-true}
 use Rattle.refusal.specs.declared.ErrorCode.the-variants.{Address}
-use Rattle.directory.specs.declared.Item.{Item}
 use Rattle.directory.specs.declared.Span.the-variants.{Items, Error}
 use Rattle.directory.specs.Item.{none}
 use Rattle.directory.specs.Run.{runItems}
@@ -23,8 +22,6 @@ use Rattle.modbus.specs.Read.{readIn}
 use Rattle.modbus.proofs.Judged.{legal-read, tenant-reads}
 use Rattle.meter.specs.declared.given.Given.{Given}
 use Rattle.meter.specs.declared.Meter.{Meter}
-use Rattle.meter.specs.Meters.{meterOk}
-use Rattle.meter.proofs.Parts.{other-address}
 use Rattle.board.specs.Board.{toSecond, addressFor, viewFor}
 use Rattle.demands.specs.RoundTrip.{Names}
 

@@ -1,15 +1,15 @@
 -- A tenant's frame is judged over the items for it, and may not write; what these show is all that its replies are made of. The four energies, the
 -- sample, the ratios and three of request 1's figures are all that is shown but setup.
-use mathlib.Core.Path.{_≡_, refl, sym, ap, subst, _∙_}
+use mathlib.Core.Path.{_≡_, refl, sym, ap, _∙_}
 use mathlib.Core.Logic.{_⊎_, inl, inr}
 use mathlib.Core.Bool.{Bool, true, false, _&&_, _||_, not, cond, and-false, false≢true}
 use mathlib.Core.List.{List, [], _∷_, _++_}
 use Prim.Native.Nat.{ℕ, zero, suc, _+_, _*_, _/_, _%_, _≤_, _<_}
-use native.Mathlib.Nat.{le-trans, mod-le, mod-eq-of-lt, mul-le-mul-right, div-lt-iff-lt-mul, pos-of-ne-zero}
+use native.Mathlib.Nat.{mod-le, mod-eq-of-lt, mul-le-mul-right, div-lt-iff-lt-mul, pos-of-ne-zero}
 use native.Mathlib.Omega.{arith}
 use lib.Dec.{T, leb, ltb, eqb}
 use lib.ListN.{length, getD, replicate}
-use borrow.Author.Tests.{le-ltb, lt-ltb, le-leb, lt-leb, ltb-false, leb-false, eq-eqb, ne-eqb, not-true}
+use borrow.Author.Tests.{le-ltb, lt-ltb, le-leb, lt-leb, leb-false, eq-eqb, ne-eqb, not-true}
 use Rattle.refusal.specs.declared.ErrorCode.the-variants.{Function}
 use Rattle.crc.specs.Crc.{intact}
 use Rattle.crc.proofs.Laws.{intact-is-sealed}
@@ -24,7 +24,7 @@ use Rattle.setup.specs.Ranges.{wordOk, groupOk}
 use Rattle.directory.specs.declared.Item.{Item}
 use Rattle.directory.specs.declared.Span.the-variants.{Items}
 use Rattle.directory.specs.Item.{none}
-use Rattle.directory.specs.Quantity.{quantity, energyCount, low, high, wrap, plain, wordIdentifier, setup2000}
+use Rattle.directory.specs.Quantity.{quantity, low, high, wrap, plain, wordIdentifier, setup2000}
 use Rattle.directory.specs.Run.{runItems}
 use Rattle.directory.specs.Views.{View, passes}
 use Rattle.directory.specs.Tenant.{forTenant, tenantOf, hidden, hides}
@@ -38,32 +38,35 @@ use Rattle.modbus.proofs.Frames.{neither, by-length, by-damage, by-function, by
 use Rattle.modbus.proofs.Judged.{legal-read}
 use Rattle.modbus.proofs.Stores.{sets-taken}
 use Rattle.average.specs.Windows.{averageOk, codedMinutes}
-use Rattle.meter.specs.declared.energies.Energy.{Energy}
+use Rattle.average.specs.declared.Average.{Average}
+use Rattle.meter.specs.declared.energies.Counters.{Counters}
 use Rattle.meter.specs.declared.given.Given.{Given}
 use Rattle.meter.specs.declared.Meter.{Meter}
+use Rattle.meter.specs.Groups.{codeOf}
 use Rattle.meter.specs.Samples.{sampleOk, inForce}
-use Rattle.meter.specs.Meters.{meterOk, withSetup, energyAt}
+use Rattle.meter.proofs.Accepts.{made-within}
+use Rattle.meter.specs.Meters.{meterOk, withSetup, withCounters, energyAt}
 use Rattle.registers.specs.Shown.{powerValues, signedWordValues, signValues, countValues, lowValues, highValues, wrapValues, factorValues, plainValues, shownOf}
 use Rattle.registers.specs.Typed.{Typed}
 use Rattle.registers.proofs.Widths.{typed-shows, setup-unseen}
 use Rattle.collector.proofs.Places.{run-length, run-at}
 use Rattle.collector.specs.When.{Asks, valueIn}
-use Rattle.board.specs.declared.Reply.the-variants.{Silent, Sent}
+use Rattle.board.specs.declared.Reply.the-variants.{Sent}
 use Rattle.board.specs.Reads.{itemsSent, dataReply, readReply}
 use Rattle.board.specs.Board.{Outcome, silentOf, sentOf, toSecond, addressFor, viewFor, boardIn}
-use Rattle.board.proofs.Cases.{board-silent, board-obeys, obeys-other, obeys-read}
-use Rattle.demands.specs.Frames.{unheard, seenBy, writes, Heeds, Answers, Altered}
-use Rattle.demands.specs.RoundTrip.{replyIn, replyTo, Meets}
+use Rattle.board.proofs.Cases.{board-silent, board-obeys, obeys-read}
+use Rattle.demands.specs.Frames.{unheard, seenBy, writes, Answers, Altered}
+use Rattle.demands.specs.RoundTrip.{replyIn, replyTo}
 use Rattle.demands.specs.Polled.{requestFor}
 use Rattle.demands.specs.Histories.{Event, afterEvent, afterAll}
-use Rattle.demands.specs.Demand3.{History, sooner, exactAt, Poll, collected}
-use Rattle.demands.specs.Tenant.{Alike, NamesSecond, SecondNamed, Sound, withoutTenant, FromTenant, AtSecond, TenantAsks, TenantAltersNothing, SameReply, SameToTenant, ShowTheSame, AnswersAlike, TenantLearns, CountAlone, CountsAlone, plainMeter, otherMeter, UnlikeButAlike}
+use Rattle.demands.specs.Demand3.{sooner}
+use Rattle.demands.specs.Tenant.{Alike, NamesSecond, SecondNamed, Sound, withoutTenant, FromTenant, AtSecond, TenantAsks, TenantAltersNothing, SameReply, SameToTenant, ShowTheSame, AnswersAlike, TenantLearns, CountsAlone, plainMeter, otherMeter, UnlikeButAlike}
 use Rattle.demands.proofs.Seen.{second-named, second-some, to-second}
 use Rattle.demands.proofs.Gives.{Gives, Case, case}
 use Rattle.demands.proofs.Gives.Gives.{other, misread, shows, miswritten, stores}
 use Rattle.demands.proofs.Gives.Case.{out, short, unheeded, for-all, for-one}
 use Rattle.demands.proofs.Replies.{gives-sent, gives-long}
-use Rattle.demands.proofs.Frames.{untouched, sent-reply}
+use Rattle.demands.proofs.Frames.{untouched, window-opened, frame-within, sent-reply}
 use Rattle.demands.proofs.Polls.{asked-whole, value-read}
 use Rattle.demands.proofs.Polled.{asked-alone}
 use Rattle.demands.proofs.Histories.{after-events}
@@ -212,11 +215,41 @@ module _ (v : View) (good : T (passes v)) where
       let t = named-second m frame named in
       same-reply m n same frame t (also-second m n frame e2 t) a b hm hn e2 ra rb (case v m frame a)
 
+  alike : T (hides v) → (m n : Meter) → meterOk m ≡ true → meterOk n ≡ true → Alike m n → SameToTenant v m n
+  alike h m n hm hn a =
+      no-more m n hm hn (a .second) (λ i l. same-shown m n a _ (open-quantity _ (every-at (λ (it : Item). not (hidden (it .quantity))) (tenantOf v .seen) h i l)))
+
+  -- a record that a frame leaves with the same code is alike
+  left-alike : (m : Meter) (frame b : List ℕ) → codeOf (boardIn v m frame b .handled .meter .setup) ≡ codeOf (m .setup) → Alike m (boardIn v m frame b .handled .meter)
+  left-alike m frame b same =
+      let n = boardIn v m frame b .handled .meter in
+      let figures : m .average ≡ n .average = sym (window-opened v good m frame b .kept same) in
+      let rest = by n (untouched v good m frame b .altered) in
+      record {
+        second = ap (λ (g : Given). g .second) (rest .0);
+        ratios = ap (λ (g : Given). g .ratios) (rest .0);
+        latest = rest .2;
+        energies = λ e. counted n e (rest .1);
+        average = ap (λ (a : Average). a .last) figures;
+        peak = ap (λ (a : Average). a .peak) figures;
+        seconds = ap (λ (a : Average). a .window .seconds) figures;
+      }
+    where
+      by : (n : Meter) → (n ≡ m) ⊎ Altered m frame b n → (m .given ≡ n .given) × (m .counters ≡ n .counters) × (m .latest ≡ n .latest)
+      by n (inl e) = (ap (λ (x : Meter). x .given) (sym e), ap (λ (x : Meter). x .counters) (sym e), ap (λ (x : Meter). x .latest) (sym e))
+      by n (inr a) = (sym (a .given), sym (a .counters), sym (a .latest))
+
+      counted : (n : Meter) (e : ℕ) → m .counters ≡ n .counters → energyAt e m .wh ≡ energyAt e n .wh
+      counted n e same = ap (λ (c : Counters). energyAt e (withCounters n c) .wh) same
+
   pub answers-alike : T (hides v) → AnswersAlike v
-  answers-alike h = record {
-    alike = λ m n hm hn a.
-        no-more m n hm hn (a .second) (λ i l. same-shown m n a _ (open-quantity _ (every-at (λ (it : Item). not (hidden (it .quantity))) (tenantOf v .seen) h i l)));
-  }
+  answers-alike h =
+      let within = after-events v good .within in
+      record {
+        alike = alike h;
+        always = λ g k xs ys made-g made-k a. alike h _ _ (within _ xs (made-within g made-g)) (within _ ys (made-within k made-k)) a;
+        frame = λ m frame b hm same. alike h m _ hm (frame-within v good m frame b hm) (left-alike m frame b same);
+      }
 
   -- ---- what an item shows stands in the reply to its read
 

@@ -20,14 +20,15 @@ use Rattle.modbus.specs.Replies.{errorBytes}
 use Rattle.reading.specs.declared.Quantity.the-variants as read
 use Rattle.reading.specs.declared.Answer.{Answer}
 use Rattle.reading.specs.declared.Answer.the-variants.{Reading}
+use Rattle.meter.specs.declared.Answer.the-variants.{Accepted}
 use Rattle.meter.specs.declared.energies.Energy.{Energy}
 use Rattle.meter.specs.declared.energies.Energies.{Energies}
 use Rattle.meter.specs.declared.given.Given.{Given}
 use Rattle.meter.specs.declared.Meter.{Meter}
 use Rattle.meter.specs.Samples.{noSample}
-use Rattle.meter.specs.Groups.{noSetup}
+use Rattle.meter.specs.Groups.{noSetup, codeOf}
 use Rattle.meter.specs.Energies.{noCounters}
-use Rattle.meter.specs.Meters.{meterOk, energyAt}
+use Rattle.meter.specs.Meters.{meterOk, newOf, energyAt}
 use Rattle.registers.specs.Shown.{shownOf}
 use Rattle.registers.specs.Typed.{Typed}
 use Rattle.board.specs.declared.Reply.the-variants.{Sent}
@@ -154,9 +155,19 @@ module _ (v : View) where
       shownOf m (getD (tenantOf v .seen) i none .quantity) ≡ shownOf n (getD (tenantOf v .seen) i none .quantity)
 
   -- STATEMENT: two meters within limits, alike in what request 3 names, answer every frame to the second address alike, however their
-  -- setup, own addresses and remainders differ. (Of a view that hides setup: `hides`.)
+  -- setup, own addresses and remainders differ; so do accepted new meters after any events that leave them alike; and so does a meter
+  -- before and after any frame to any address, unless this changes the code at 0x200a, which opens a new window. (Of a view that
+  -- hides setup: `hides`.)
   pub record AnswersAlike : Type 0 where
     pub alike : (m n : Meter) → meterOk m ≡ true → meterOk n ≡ true → Alike m n → SameToTenant m n
+    pub always :
+        (g h : Given) (xs ys : List Event) → newOf g .answer ≡ Accepted → newOf h .answer ≡ Accepted →
+        Alike (afterAll v (newOf g .meter) xs) (afterAll v (newOf h .meter) ys) →
+        SameToTenant (afterAll v (newOf g .meter) xs) (afterAll v (newOf h .meter) ys)
+    pub frame :
+        (m : Meter) (frame b : List ℕ) → meterOk m ≡ true →
+        codeOf (boardIn v m frame b .handled .meter .setup) ≡ codeOf (m .setup) →
+        SameToTenant m (boardIn v m frame b .handled .meter)
 
   -- STATEMENT: a tenant learns what the items for it show, and no more: two meters within limits of the same second address answer it
   -- alike exactly when these show the same

@@ -1,7 +1,7 @@
 -- The first items of a directory: what passes the tests still does, an item is found where it was or not at all, and a run is as it was or ends in error 02. Along an ascending directory the items for a tenant come first.
 use mathlib.Core.Path.{_≡_, refl, sym, ap, _∙_}
 use mathlib.Core.Logic.{_⊎_, inl, inr, ⊎-elim}
-use mathlib.Core.Bool.{Bool, true, false, _||_, cond, and-eq-true-iff}
+use mathlib.Core.Bool.{Bool, true, false, cond, and-eq-true-iff}
 use mathlib.Core.List.{List, [], _∷_}
 use Prim.Native.Nat.{ℕ, zero, suc, _+_, _-_, _≤_, _<_}
 use native.Mathlib.Nat.{add-zero}
@@ -16,7 +16,7 @@ use Rattle.directory.specs.declared.Found.{Found}
 use Rattle.directory.specs.declared.Found.the-variants.{At, Nothing}
 use Rattle.directory.specs.declared.Span.{Span}
 use Rattle.directory.specs.declared.Span.the-variants.{Items, Error}
-use Rattle.directory.specs.Item.{none, inBytes, ends}
+use Rattle.directory.specs.Item.{none, ends}
 use Rattle.directory.specs.Order.{ascends, every, narrow, ruled, shaped, meant, tested}
 use Rattle.directory.specs.Run.{findIn, onItem, isL, runFrom, runIn}
 use Rattle.directory.specs.Views.{View, passes}

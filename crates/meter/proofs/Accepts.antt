@@ -1,7 +1,7 @@
 -- The answers of a new meter and of a sample as picks by tests; and what is within limits stays so.
 use mathlib.Core.Path.{_≡_, refl, sym, ap, _∙_}
 use mathlib.Core.Logic.{_↔_, _⊎_, inl, inr}
-use mathlib.Core.Bool.{Bool, true, false, _&&_, cond, and-true, not, false≢true, and-eq-true-iff}
+use mathlib.Core.Bool.{Bool, true, false, _&&_, cond, and-true, not, and-eq-true-iff}
 use Prim.Native.Nat.{ℕ, _+_, _%_, zero, suc, zero-le}
 use native.Mathlib.Omega.{arith}
 use lib.Dec.{leb, eqb}

@@ -1,5 +1,5 @@
 -- A frame of no bytes names no address, so not the second.
-use mathlib.Core.Path.{sym, _∙_}
+use mathlib.Core.Path.{sym}
 use Rattle.board.proofs.Cases.{second-none}
 use borrow.Author.Needs.{needs}
 use Rattle.board.proofs.to_second.Statement.{statement}
