@@ -18,7 +18,7 @@ use Rattle.collector.proofs.Joins.{joins-when}
 use Rattle.average.proofs.Limits.{window-lengths, average-limits, limits-bite}
 use Rattle.meter.proofs.Parts.{zero-to-neither}
 use Rattle.meter.proofs.Sums.{sums-carried}
-use Rattle.meter.proofs.Accepts.{new-answers, sample-answers, setup-idle, code-counts}
+use Rattle.meter.proofs.Accepts.{new-answers, address-limits, sample-answers, setup-idle, code-counts}
 use Rattle.store.proofs.Verdicts.{write-when}
 use Rattle.registers.proofs.Widths.{every-case, setup-unseen}
 use Rattle.transcript.proofs.Written.{text-written}
@@ -71,6 +71,7 @@ ground = record {
 pub replies : Replies
 replies = record {
   new-meters = new-answers;
+  addresses = address-limits;
   frames = board.frames-when;
   obeys = board.obeys;
   whole = board.replies-sealed;

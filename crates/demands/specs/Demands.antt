@@ -35,7 +35,7 @@ use Rattle.meter.specs.declared.Meter.{Meter}
 use Rattle.meter.specs.Energies.{ZeroToNeither}
 use Rattle.meter.specs.Meters.{meterOk}
 use Rattle.meter.specs.Carried.{SumsCarried}
-use Rattle.meter.specs.Accepts.{NewAnswers, SampleAnswers, SetupIdle, CodeCounts}
+use Rattle.meter.specs.Accepts.{NewAnswers, AddressLimits, SampleAnswers, SetupIdle, CodeCounts}
 use Rattle.store.specs.Writes.{WriteWhen}
 use Rattle.transcript.specs.Transcript.{TextWritten}
 use Rattle.registers.specs.Typed.{Typed, EveryCase, SetupUnseen}
@@ -104,6 +104,7 @@ pub record Ground : Type 0 where
 -- STATEMENT: demand 2, its first half: every reply is, byte for byte, the one that paper 01 gives
 pub record Replies : Type 0 where
   pub new-meters : (g : Given) → NewAnswers g
+  pub addresses : (m : Meter) → AddressLimits m
   pub frames : EveryFrame FramesWhen
   pub obeys : EveryFrame Obeys
   pub whole : EveryFrame RepliesSealed

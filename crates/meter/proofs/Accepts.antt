@@ -32,8 +32,8 @@ use Rattle.meter.specs.Energies.{energyOk, energiesOk, countersOk, plusO
 use Rattle.meter.specs.Groups.{setupOk, codeOf}
 use Rattle.meter.specs.Meters.{meterT, givenOk, meterOk, blankOf, answerWith, answerTold, newOf, withAverage, withSetup, setUpOf}
 use Rattle.meter.specs.After.{nextOf, meterWithinTop, afterOf}
-use Rattle.meter.specs.Accepts.{NewAnswers, SampleAnswers, other, SetupIdle, CodeCounts}
-use Rattle.meter.proofs.Parts.{meter-parts, groups-within, p-most}
+use Rattle.meter.specs.Accepts.{NewAnswers, AddressLimits, SampleAnswers, other, SetupIdle, CodeCounts}
+use Rattle.meter.proofs.Parts.{meter-parts, groups-within, own-address, other-address, p-most}
 use Rattle.meter.proofs.Cases.{chosen, after-accepted}
 use Rattle.meter.proofs.Outcomes.{by-number, firstOf, first-fails, second-fails, third-fails, none-fails, only-these, not-accepted}
 
@@ -238,6 +238,18 @@ module _ (g : Given) where
     blank = new-blank;
     within = new-within;
   }
+
+-- ---- the addresses of a record
+
+pub address-limits : (m : Meter) → AddressLimits m
+address-limits m = record { none = λ z. refuted (λ h. omega (arith, z, own-address m h)); equal = λ e. refuted (λ h. other-address m h e) }
+  where
+    refuted : (meterOk m ≡ true → ⊥) → meterOk m ≡ false
+    refuted never = by (meterOk m) refl
+      where
+        by : (b : Bool) → meterOk m ≡ b → meterOk m ≡ false
+        by true h = absurd (never h)
+        by false h = h
 
 -- ---- setup words
 

@@ -39,6 +39,11 @@ module _ (g : Given) where
     pub blank : newOf g .meter ≡ blankOf g
     pub within : (newOf g .answer ≡ Accepted) ↔ (meterOk (blankOf g) ≡ true)
 
+-- STATEMENT: a record is out of limits whose own address is 0, or whose second address equals it (request 3), whatever else it holds
+pub record AddressLimits (m : Meter) : Type 0 where
+  pub none : m .given .address ≡ 0 → meterOk m ≡ false
+  pub equal : m .given .second ≡ m .given .address → meterOk m ≡ false
+
 -- ---- a sample handed to a meter
 
 -- a meter with another setup and other figures of request 1

@@ -1,5 +1,5 @@
 -- The parts of the statement: the text fits since 32 characters a byte are enough for each line; bench's meter is an accepted one.
-use mathlib.Core.Path.{_≡_, refl}
+use mathlib.Core.Path.{_≡_, refl, ap}
 use mathlib.Core.Bool.{Bool, true, false, cond}
 use mathlib.Core.List.{List}
 use Prim.Native.Nat.{ℕ, _*_, _≤_}
@@ -12,7 +12,7 @@ use Rattle.lines.specs.Lines.{lineOk, bytesOf}
 use Rattle.modbus.proofs.Stores.{sets-taken}
 use Rattle.meter.specs.declared.Meter.{Meter}
 use Rattle.meter.specs.Meters.{meterOk, givenOf}
-use Rattle.meter.proofs.Accepts.{new-answers, made-within}
+use Rattle.meter.proofs.Accepts.{made-within, new-answers, new-blank}
 use Rattle.board.specs.declared.Reply.the-variants.{Refused}
 use Rattle.transcript.specs.Transcript.{outcomeOf, meterAfter, benchMeter, benchText, roomFor, Transcribed, TextWritten}
 use Rattle.transcript.proofs.Outcomes.{stays-within, never-refuses}
@@ -35,6 +35,10 @@ new =
     let g = givenOf 1 (record { kta = 1; ktv = 10 }) in
     made-within g (new-answers g .accepted .1 (refl, λ e. omega arith, λ e. omega arith))
 
+alone : benchMeter .given .second ≡ 0
+unfolding benchMeter
+alone = ap (λ (m : Meter). m .given .second) (new-blank (givenOf 1 (record { kta = 1; ktv = 10 })))
+
 within : (m : Meter) (line : List ℕ) → meterOk m ≡ true → meterOk (meterAfter m line) ≡ true
 unfolding meterAfter outcomeOf
 within m line h = by (lineOk line)
@@ -48,4 +52,4 @@ unfolding outcomeOf
 answered m line reason h = never-refuses m (bytesOf line) (replicate 256 0) h (omega arith) reason
 
 pub text-written : TextWritten
-text-written = record { fits = fits; whole = whole; answered = answered; within = within; new = new }
+text-written = record { fits = fits; whole = whole; answered = answered; within = within; new = new; alone = alone }

@@ -72,7 +72,8 @@ pub record Transcribed (input before : List ℕ) (answer : ℕ) (after : List �
   pub told : answer ≡ cond (roomFor input (length before)) (length (benchText input)) 0
   pub bytes : after ≡ cond (roomFor input (length before)) (sets before 0 (benchText input)) before
 
--- STATEMENT: the text fits its room, and stands there whole; a meter within limits refuses nothing and stays so, as bench's is
+-- STATEMENT: the text fits its room, and stands there whole; a meter within limits refuses nothing and stays so, as bench's is, which has
+-- no second address (request 3)
 pub record TextWritten : Type 0 where
   pub fits : (input : List ℕ) → length (benchText input) ≤ 32 * length input
   pub whole :
@@ -82,3 +83,4 @@ pub record TextWritten : Type 0 where
       (m : Meter) (line : List ℕ) (reason : Refusal) → meterOk m ≡ true → outcomeOf m line .handled .reply ≡ Refused reason → ⊥
   pub within : (m : Meter) (line : List ℕ) → meterOk m ≡ true → meterOk (meterAfter m line) ≡ true
   pub new : meterOk benchMeter ≡ true
+  pub alone : benchMeter .given .second ≡ 0
