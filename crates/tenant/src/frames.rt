@@ -9,61 +9,9 @@ pub const OWN: u8 = 1;
 // The one that the tenant reads it by.
 pub const SECOND: u8 = 9;
 
-const REPLY_ROOM: usize = 256;
-
-// A longer frame is told by its length. A reply of eight words is not.
-const SHORT: usize = 21;
-
-// A read of some words from a start on.
-pub fn read(address: u8, start: u16, words: u8) -> [u8; 8] {
-    let mut frame = [0u8; 8];
-    frame[0] = address;
-    frame[1] = 0x03;
-    frame[2] = (start / 256) as u8;
-    frame[3] = (start % 256) as u8;
-    frame[5] = words;
-    crc::put(&mut frame, 6);
-    frame
-}
-
 // A tenant's read, and its reply.
 pub fn ask(m: Meter, start: u16, words: u8, name: &[u8]) {
-    send(m, name, &read(SECOND, start, words));
-}
-
-// A frame by its name, and what it is answered with. Hands back the meter after it.
-pub fn send(m: Meter, name: &[u8], frame: &[u8]) -> Meter {
-    say::text(name);
-    told(b", asked", frame);
-    let mut buffer = [0u8; REPLY_ROOM];
-    let handled = board::handle(m, frame, &mut buffer);
-    let did = handled.reply;
-    let Reply::Sent(n) = did else {
-        unanswered(did);
-        return handled.meter;
-    };
-    told(b", answered", &buffer[..n]);
-    say::end();
-    handled.meter
-}
-
-fn told(what: &[u8], bytes: &[u8]) {
-    say::text(what);
-    if bytes.len() <= SHORT {
-        say::bytes(bytes);
-    } else {
-        say::sentence(b" with # bytes", &[bytes.len() as u64]);
-    }
-}
-
-pub fn unanswered(did: Reply) {
-    if let Reply::Refused(reason) = did {
-        say::text(b", ");
-        say::refused(reason);
-    } else {
-        say::text(b", silent");
-    }
-    say::end();
+    ask::send(m, name, &ask::read(SECOND, start, words));
 }
 
 // A write of the 16 words from 0x2000 on, all 0 but the one at 0x2003, which the owner then reads. Hands back the meter after it.
@@ -76,19 +24,19 @@ pub fn write(m: Meter, name: &[u8], address: u8, word: u8) -> Meter {
     frame[6] = 32;
     frame[14] = word;
     crc::put(&mut frame, 39);
-    let next = send(m, name, &frame);
-    send(next, b"  0x2003", &read(OWN, 0x2003, 1))
+    let next = ask::send(m, name, &frame);
+    ask::send(next, b"  0x2003", &ask::read(OWN, 0x2003, 1))
 }
 
 // A tenant's read, and what the collector makes of the first item of its reply.
 pub fn collect(m: Meter, start: u16, words: u8, name: &[u8]) {
     say::text(name);
-    let request = read(SECOND, start, words);
-    let mut buffer = [0u8; REPLY_ROOM];
+    let request = ask::read(SECOND, start, words);
+    let mut buffer = [0u8; ask::REPLY_ROOM];
     let handled = board::handle(m, &request, &mut buffer);
     let did = handled.reply;
     let Reply::Sent(n) = did else {
-        unanswered(did);
+        ask::unanswered(did);
         return;
     };
     let answer = collector::read(&request, &buffer[..n], m.given.ratios, 0);

@@ -26,19 +26,19 @@ fn reads(m: Meter) {
     frames::ask(m, 0x1000, 1, b"half of an L");
     frames::ask(m, 0x1001, 2, b"a start inside an L");
     frames::ask(m, 0x1000, 0, b"no words");
-    frames::send(m, b"a read of 7 bytes", b"\x09\x03\x10\x00\x02\x78\x41");
-    frames::send(m, b"a wrong CRC", b"\x09\x03\x03\x01\x00\x02\x94\xC6");
-    frames::send(m, b"a read to 5", &frames::read(5, 0x0301, 2));
+    ask::send(m, b"a read of 7 bytes", b"\x09\x03\x10\x00\x02\x78\x41");
+    ask::send(m, b"a wrong CRC", b"\x09\x03\x03\x01\x00\x02\x94\xC6");
+    ask::send(m, b"a read to 5", &ask::read(5, 0x0301, 2));
 }
 
 // Any function but a read is wrong, however long the frame is. From 0x80 on none is heard.
 fn functions(m: Meter) {
-    frames::send(m, b"function 0x00", b"\x09\x00\x07\xE0");
-    frames::send(m, b"function 0x04", b"\x09\x04\x03\x01\x00\x02\x21\x07");
-    frames::send(m, b"function 0x10", b"\x09\x10\x06\x2C");
-    frames::send(m, b"function 0x7f", b"\x09\x7F\x46\x00");
-    frames::send(m, b"function 0x83", b"\x09\x83\x03\x01\x00\x02\x95\x19");
-    frames::send(m, b"function 0x90", b"\x09\x90\x07\x8C");
+    ask::send(m, b"function 0x00", b"\x09\x00\x07\xE0");
+    ask::send(m, b"function 0x04", b"\x09\x04\x03\x01\x00\x02\x21\x07");
+    ask::send(m, b"function 0x10", b"\x09\x10\x06\x2C");
+    ask::send(m, b"function 0x7f", b"\x09\x7F\x46\x00");
+    ask::send(m, b"function 0x83", b"\x09\x83\x03\x01\x00\x02\x95\x19");
+    ask::send(m, b"function 0x90", b"\x09\x90\x07\x8C");
 }
 
 // One write to each address: only the tenant's is not stored.

@@ -52,23 +52,23 @@ pub fn new_meters() {
     let made = Meter::new(frames::OWN, Ratios { kta: 1, ktv: 10 });
     answer(b"address 1 alone", made);
     let m = made.meter;
-    frames::send(m, b"  a read to 0", &frames::read(0, 0x0301, 2));
-    frames::send(m, b"  a read to 9", &frames::read(9, 0x0301, 2));
+    ask::send(m, b"  a read to 0", &ask::read(0, 0x0301, 2));
+    ask::send(m, b"  a read to 9", &ask::read(9, 0x0301, 2));
 }
 
 // A record whose second address has become its own, and a buffer that is too short for the tenant's reply.
 pub fn refused(m: Meter) {
     let mut out = m;
     out.given.second = frames::OWN;
-    let request = frames::read(frames::OWN, 0x0301, 2);
-    frames::send(out, b"a second address of 1, a frame", &request);
+    let request = ask::read(frames::OWN, 0x0301, 2);
+    ask::send(out, b"a second address of 1, a frame", &request);
     answer(b"a second address of 1, a sample", out.after(m.latest));
-    let good = frames::read(frames::SECOND, 0x0301, 2);
+    let good = ask::read(frames::SECOND, 0x0301, 2);
     let mut buffer = [0u8; 255];
     let handled = board::handle(m, &good, &mut buffer);
     let did = handled.reply;
     say::text(b"a buffer of 255 bytes");
-    frames::unanswered(did);
+    ask::unanswered(did);
 }
 
 fn answer(name: &[u8], a: Answered) {
@@ -91,8 +91,8 @@ pub fn alike(m: Meter) {
     one.average.peak = 123_456;
     one.average.window.seconds = 130;
     let two = unlike(one);
-    frames::send(one, b"0x2003 at 1", &frames::read(1, 0x2003, 1));
-    frames::send(two, b"  at 200", &frames::read(200, 0x2003, 1));
+    ask::send(one, b"0x2003 at 1", &ask::read(1, 0x2003, 1));
+    ask::send(two, b"  at 200", &ask::read(200, 0x2003, 1));
     frames::ask(one, 0x0301, 2, b"0x0301 at 9");
     frames::ask(two, 0x0301, 2, b"  of the other");
     frames::ask(one, 0x101C, 8, b"0x101c at 9");

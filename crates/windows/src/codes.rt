@@ -17,7 +17,7 @@ pub fn each() {
 // A window of a code, with all its seconds but one, and then full.
 fn filled(code: u8, seconds: u32) {
     say::sentence(b"code #", &[code as u64]);
-    let m = frames::send(figures::new(1), b" written", &frames::write(1, code));
+    let m = ask::send(figures::new(1), b" written", &frames::write(1, code));
     let open = figures::after(m, seconds, 1_000, b"  with all but one");
     figures::after(open, 1, 1_000, b"  full");
 }
@@ -29,7 +29,7 @@ fn middle(m: Meter) -> Meter {
 
 // A code written to a meter or, at address 0, to all, and the figures after it.
 fn written(m: Meter, address: u8, code: u8, name: &[u8]) -> Meter {
-    let next = frames::send(m, name, &frames::write(address, code));
+    let next = ask::send(m, name, &frames::write(address, code));
     figures::show(next, figures::WORD_BLOCK, b"  after it");
     next
 }
@@ -60,7 +60,7 @@ pub fn kept() {
 
 // The word at 0x220a, which stands there as the code does in its group, is 1.
 fn other_group(m: Meter) {
-    let other = frames::send(
+    let other = ask::send(
         m,
         b"0x2200 written",
         b"\x01\x10\x22\x00\x00\x18\x30\x00\x00\x00\x00\x00\x00\x00\x00\x00\x00\x00\x00\x00\x00\x00\x00\x00\x00\x00\x00\x00\x01\x00\x00\x00\x00\x00\x00\x00\x00\x00\x00\x00\x00\x00\x00\x00\x00\x00\x00\x00\x00\x00\x00\x00\x00\x00\x00\xDE\xA7",

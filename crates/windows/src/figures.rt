@@ -57,11 +57,11 @@ fn told(answer: Answer) {
 pub fn show(m: Meter, start: u16, name: &[u8]) {
     say::text(name);
     let request = frames::read(start, 5);
-    let mut buffer = [0u8; frames::REPLY_ROOM];
+    let mut buffer = [0u8; ask::REPLY_ROOM];
     let handled = board::handle(m, &request, &mut buffer);
     let did = handled.reply;
     let Reply::Sent(n) = did else {
-        frames::unanswered(did);
+        ask::unanswered(did);
         return;
     };
     three(&request, &buffer[..n], m.given.ratios);

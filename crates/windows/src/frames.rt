@@ -1,22 +1,9 @@
-// Frames to a meter of address 1, and what it answers.
+// Frames to a meter of address 1.
 use board::Meter;
-use board::Reply;
-
-pub const REPLY_ROOM: usize = 256;
-
-// A longer frame is told by its length.
-const SHORT: usize = 15;
 
 // A read of some words from an address on.
 pub fn read(start: u16, words: u8) -> [u8; 8] {
-    let mut frame = [0u8; 8];
-    frame[0] = 1;
-    frame[1] = 0x03;
-    frame[2] = (start / 256) as u8;
-    frame[3] = (start % 256) as u8;
-    frame[5] = words;
-    crc::put(&mut frame, 6);
-    frame
+    ask::read(1, start, words)
 }
 
 // A write of the 16 words from 0x2000 on, with this code at 0x200a. The word at 0x2003, which has nothing to do with windows, is
@@ -36,40 +23,5 @@ pub fn write(address: u8, code: u8) -> [u8; 41] {
 
 // A read of some words from an address on, and its reply.
 pub fn ask(m: Meter, start: u16, words: u8, name: &[u8]) {
-    send(m, name, &read(start, words));
-}
-
-// A frame by its name, and what it is answered with. Hands back the meter after it.
-pub fn send(m: Meter, name: &[u8], frame: &[u8]) -> Meter {
-    say::text(name);
-    told(b", asked", frame);
-    let mut buffer = [0u8; REPLY_ROOM];
-    let handled = board::handle(m, frame, &mut buffer);
-    let did = handled.reply;
-    let Reply::Sent(n) = did else {
-        unanswered(did);
-        return handled.meter;
-    };
-    told(b", answered", &buffer[..n]);
-    say::end();
-    handled.meter
-}
-
-fn told(what: &[u8], bytes: &[u8]) {
-    say::text(what);
-    if bytes.len() <= SHORT {
-        say::bytes(bytes);
-    } else {
-        say::sentence(b" with # bytes", &[bytes.len() as u64]);
-    }
-}
-
-pub fn unanswered(did: Reply) {
-    if let Reply::Refused(reason) = did {
-        say::text(b", ");
-        say::refused(reason);
-    } else {
-        say::text(b", silent");
-    }
-    say::end();
+    ask::send(m, name, &read(start, words));
 }

@@ -5,8 +5,8 @@ use native.Mathlib.Omega.{arith}
 use lib.Seq.{length-take-le}
 use Rattle.board.proofs.Lengths.{reply-long}
 use borrow.Author.Needs.{needs}
-use Rattle.windows.proofs.frames.send.Statement.{statement}
-use Rattle.windows.proofs.frames.send.Tie as tie
+use Rattle.ask.proofs.send.Statement.{statement}
+use Rattle.ask.proofs.send.Tie as tie
 
 sent : (c : tie.After-did) → c .did .given .0 .0 ≤ 256
 sent c = reply-long _ _ _ (c .before .before .before .handle .ensures .handled) (c .did .given .1)
