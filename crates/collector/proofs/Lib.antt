@@ -1,5 +1,6 @@
 pub mod Places
 pub mod Requests
 pub mod Judged
+pub mod Parts
 pub mod When
 pub mod Joins

@@ -35,32 +35,34 @@ use Rattle.reading.specs.declared.Answer.the-variants.{Reading, Error, Refused}
 use Rattle.reading.specs.Told.{told}
 use Rattle.reading.specs.Readings.{thirteen, quantitiesOf, readingOf}
 use Rattle.reading.proofs.Told.{one-answer-each}
-use Rattle.collector.specs.Collector.{heard, lengthWrong, isReadError, foreign, thirdOf, codeOf, errorOf, misfit, placeOf, itemOf, replyOf, collectorIn}
+use Rattle.collector.specs.declared.Judgement.{Judgement}
+use Rattle.collector.specs.declared.Judgement.the-variants as judgement
+use Rattle.collector.specs.Collector.{heard, lengthWrong, isReadError, foreign, thirdOf, codeOf, errorOf, misfit, replyOf, judgedIn, placeOf, itemOf, onData, collectorIn}
 use Rattle.collector.specs.When.{Asks, Asked, Sound, Fits, Holds, itemAt, valueIn, errorMisfit, ForeignReply, Misfits, Past, Impossible, ReplyGives, GivesCode, Reads, RepliesWhen, NotMisread}
 use Rattle.collector.proofs.Places.{run-length, run-at, item-past, item-reads}
-use Rattle.collector.proofs.Judged.{length-refused, crc-refused, foreign-refused, error-given, misfit-refused, item-given, fitting}
+use Rattle.collector.proofs.Judged.{length-refused, crc-refused, foreign-refused, error-given, misfit-refused, data-given, fitting}
 
 -- ---- the error code of a reply
 
-error-refused : (reply : List ℕ) → errorMisfit reply ≡ true → errorOf reply ≡ Refused ReplyMisfit
+error-refused : (reply : List ℕ) → errorMisfit reply ≡ true → errorOf reply ≡ judgement.Refused ReplyMisfit
 unfolding errorOf
 error-refused reply h = by (eqb (length reply) 5) refl
   where
     n : ℕ
     n = thirdOf reply
 
-    none-of : (a b : Bool) → ltb n 1 ≡ a → ltb 3 n ≡ b → (a || b) ≡ true → codeOf n ≡ Refused ReplyMisfit
+    none-of : (a b : Bool) → ltb n 1 ≡ a → ltb 3 n ≡ b → (a || b) ≡ true → codeOf n ≡ judgement.Refused ReplyMisfit
     none-of true b e f g = let z : n ≡ 0 = omega (arith, ltb-true n 1 e) in rw z refl
     none-of false true e f g =
         let over : 3 < n = ltb-true 3 n f in
         simp (ne-eqb n 1 (λ z. omega (arith, over, z)), ne-eqb n 2 (λ z. omega (arith, over, z)), ne-eqb n 3 (λ z. omega (arith, over, z)))
     none-of false false e f g = absurd (false≢true g)
 
-    by : (t : Bool) → eqb (length reply) 5 ≡ t → cond (not (eqb (length reply) 5)) (Refused ReplyMisfit) (codeOf n) ≡ Refused ReplyMisfit
+    by : (t : Bool) → eqb (length reply) 5 ≡ t → cond (not (eqb (length reply) 5)) (judgement.Refused ReplyMisfit) (codeOf n) ≡ judgement.Refused ReplyMisfit
     by false e = rw e refl
-    by true e = ap (λ (t : Bool). cond (not t) (Refused ReplyMisfit) (codeOf n)) e ∙ none-of (ltb n 1) (ltb 3 n) refl refl (sym (ap (λ (t : Bool). not t || (ltb n 1 || ltb 3 n)) e) ∙ h)
+    by true e = ap (λ (t : Bool). cond (not t) (judgement.Refused ReplyMisfit) (codeOf n)) e ∙ none-of (ltb n 1) (ltb 3 n) refl refl (sym (ap (λ (t : Bool). not t || (ltb n 1 || ltb 3 n)) e) ∙ h)
 
-error-code : (reply : List ℕ) (code : ErrorCode) → length reply ≡ 5 → thirdOf reply ≡ errorNumber code → errorOf reply ≡ Error code
+error-code : (reply : List ℕ) (code : ErrorCode) → length reply ≡ 5 → thirdOf reply ≡ errorNumber code → errorOf reply ≡ judgement.Error code
 unfolding errorOf
 error-code reply Function five says = simp (eq-eqb (length reply) 5 five, says)
 error-code reply Address five says = simp (eq-eqb (length reply) 5 five, says)
@@ -101,14 +103,18 @@ module _ (v : View) (good : T (passes v)) where
     abbrev answer : Answer
     answer = collectorIn v request reply r index
 
-    to-reply : (a : Asked v request r) → answer ≡ replyOf (tOf r) request reply (runItems (v .seen) (a .asks .first) (a .asks .count)) index
-    unfolding collectorIn
+    -- what is given once request and reply are judged
+    abbrev on : Judgement → Answer
+    on judged = onData v judged (λ its. itemOf (tOf r) its reply index)
+
+    to-reply : (a : Asked v request r) → answer ≡ on (replyOf request reply (judgement.Items (a .asks .first) (a .asks .count)))
+    unfolding collectorIn judgedIn
     to-reply a = rw (a .ratios, a .asks .hears, a .asks .items) refl
 
     to-item : (f : Fits v request reply r) → answer ≡ itemOf (tOf r) (runItems (v .seen) (f .sound .asked .asks .first) (f .sound .asked .asks .count)) reply index
     to-item f =
         let h = f .sound in
-        to-reply (h .asked) ∙ sym (item-given (tOf r) request reply (runItems (v .seen) (h .asked .asks .first) (h .asked .asks .count)) index (h .long) (h .whole) (h .own) (f .words) (f .fits))
+        to-reply (h .asked) ∙ ap on (sym (data-given request reply (judgement.Items (h .asked .asks .first) (h .asked .asks .count)) (h .long) (h .whole) (h .own) (f .words) (f .fits)))
 
     to-reading : (h : Holds v request reply r index) → answer ≡ readingOf (tOf r) (itemAt v (h .fits .sound .asked .asks) index) (valueIn v (h .fits .sound .asked .asks) reply index)
     to-reading h =
@@ -119,11 +125,11 @@ module _ (v : View) (good : T (passes v)) where
         ∙ ap (λ (it : Item). readingOf (tOf r) it (valueAt (it .words) reply (placeOf its index))) (run-at (v .seen) (a .first) (a .count) index (h .below))
 
     ratio-row : ratiosOk r ≡ false → answer ≡ Refused RatioOutOfLimits
-    unfolding collectorIn
+    unfolding collectorIn judgedIn
     ratio-row h = rw h refl
 
     request-row : ratiosOk r ≡ true → (Asks v request → ⊥) → answer ≡ Refused NotARead
-    unfolding collectorIn
+    unfolding collectorIn judgedIn
     request-row ok other = by (heard request) (readIn v request) refl refl
       where
         by : (t : Bool) (s : Span) → heard request ≡ t → readIn v request ≡ s → answer ≡ Refused NotARead
@@ -134,12 +140,12 @@ module _ (v : View) (good : T (passes v)) where
     row : (reason : Refusal) → Row reason request reply r index → answer ≡ Refused reason
     row RatioOutOfLimits h = ratio-row h
     row NotARead h = request-row (h .0) (h .1)
-    row ReplyLength h = to-reply (h .0) ∙ sym (length-refused _ _ _ _ _ (h .1))
-    row ReplyCrc h = to-reply (h .0) ∙ sym (crc-refused _ _ _ _ _ (h .1) (h .2))
-    row ReplyForeign h = to-reply (h .0) ∙ sym (foreign-refused _ _ _ _ _ (h .1) (h .2) (h .3))
+    row ReplyLength h = to-reply (h .0) ∙ ap on (sym (length-refused _ _ _ (h .1)))
+    row ReplyCrc h = to-reply (h .0) ∙ ap on (sym (crc-refused _ _ _ (h .1) (h .2)))
+    row ReplyForeign h = to-reply (h .0) ∙ ap on (sym (foreign-refused _ _ _ (h .1) (h .2) (h .3)))
     row ReplyMisfit (h, inl m) =
-        to-reply (h .asked) ∙ sym (error-given _ _ _ _ _ (h .long) (h .whole) (h .own) (m .0)) ∙ error-refused reply (m .1)
-    row ReplyMisfit (h, inr m) = to-reply (h .asked) ∙ sym (misfit-refused _ _ _ _ _ (h .long) (h .whole) (h .own) (m .0) (m .1))
+        to-reply (h .asked) ∙ ap on (sym (error-given _ _ _ (h .long) (h .whole) (h .own) (m .0)) ∙ error-refused reply (m .1))
+    row ReplyMisfit (h, inr m) = to-reply (h .asked) ∙ ap on (sym (misfit-refused _ _ _ (h .long) (h .whole) (h .own) (m .0) (m .1)))
     row IndexPastItems h =
         let a = h .fits .sound .asked .asks in
         to-item (h .fits) ∙ sym (item-past _ _ _ _ (omega (arith, h .past, run-length (v .seen) (a .first) (a .count) (legal-read v good (a .items) .inside))))
@@ -154,7 +160,7 @@ module _ (v : View) (good : T (passes v)) where
     errs : (code : ErrorCode) → GivesCode v request reply r (errorNumber code) → answer ≡ Error code
     errs code h =
         let s = h .sound in
-        to-reply (s .asked) ∙ sym (error-given _ _ _ _ _ (s .long) (s .whole) (s .own) (h .error)) ∙ error-code reply code (h .long) (h .says)
+        to-reply (s .asked) ∙ ap on (sym (error-given _ _ _ (s .long) (s .whole) (s .own) (h .error)) ∙ error-code reply code (h .long) (h .says))
 
     reading : (q : Quantity) → Reads v request reply r index q → answer ≡ Reading q
     reading q h = to-reading (h .holds) ∙ h .reading

@@ -8,9 +8,7 @@ ghost use Rattle.directory.specs.Item.{items};
 ghost use Rattle.directory.specs.Order.{every, shaped, meant};
 ghost use Rattle.directory.specs.Run.{wordsOf};
 ghost use Rattle.directory.specs.Views.{viewOf, Lent};
-ghost use Rattle.modbus.specs.Frame.{wordNumber};
-ghost use Rattle.modbus.specs.Read.{readIn};
-ghost use Rattle.collector.specs.Collector.{heard, onItems, errorOf, placeOf, itemOf, replyOf, collectorOf};
+ghost use Rattle.collector.specs.Collector.{heard, errorOf, replyOf, judgedIn, placeOf, itemOf, collectorIn, collectorOf};
 use directory::Reach;
 use directory::Span;
 use own::table;
@@ -34,24 +32,60 @@ const READ_ERROR: u8 = modbus::READ_HOLDING_REGISTERS + modbus::ERROR_FLAG;
 // The bytes of an error reply, and of a data reply without its data.
 const REPLY_LEAST: usize = 5;
 
+// What a request and its reply come to before any item is looked at.
+enum Judgement {
+    // Data that fits: the first of the items asked for, by its index in the directory, and how many they are.
+    Items { first: usize, count: usize },
+    Error(ErrorCode),
+    Refused(Refusal),
+}
+
 // What one item of a reply reads as. The ratios are those of the meter that was asked; the index counts the items from 0.
 pub fn read(request: &[u8], reply: &[u8], ratios: Ratios, index: usize) -> Answer
     ensures { λ r. ⌜ r ≡ collectorOf (now (request .entry)) (now (reply .entry)) ratios index ⌝ }
 {
+    with_table(&table::TABLE, own::reach(), request, reply, ratios, index)
+}
+
+// `read` with the table lent: each use of the constant's name copies the whole table onto the stack.
+fn with_table(
+    table: &[u16],
+    reach: Reach,
+    request: &[u8],
+    reply: &[u8],
+    ratios: Ratios,
+    index: usize,
+) -> Answer
+    requires { ⌜ Lent (now table) reach ⌝ }
+    ensures { λ r. ⌜ r ≡ collectorIn (viewOf (now (table .entry)) reach) (now (request .entry)) (now (reply .entry)) ratios index ⌝ }
+{
+    let judged = judge(table, reach, request, reply, ratios);
+    match judged {
+        Judgement::Items { first, count } => {
+            let asked = directory::part(table, first, count);
+            item(asked, reply, ratios.tenths(), index)
+        }
+        Judgement::Error(code) => Answer::Error(code),
+        Judgement::Refused(reason) => Answer::Refused(reason),
+    }
+}
+
+// Request and reply are judged here, once for however many items.
+fn judge(table: &[u16], reach: Reach, request: &[u8], reply: &[u8], ratios: Ratios) -> Judgement
+    requires { ⌜ Lent (now table) reach ⌝ }
+    ensures { λ r. ⌜ r ≡ judgedIn (viewOf (now (table .entry)) reach) (now (request .entry)) (now (reply .entry)) ratios ⌝ }
+{
     if !ratios.within() {
-        return Answer::Refused(Refusal::RatioOutOfLimits);
+        return Judgement::Refused(Refusal::RatioOutOfLimits);
     }
     if !heard(request) {
-        return Answer::Refused(Refusal::NotARead);
+        return Judgement::Refused(Refusal::NotARead);
     }
-    with_table(
-        &table::TABLE,
-        own::reach(),
-        request,
-        reply,
-        ratios.tenths(),
-        index,
-    )
+    let span = modbus::read_in(table, reach, request);
+    let Span::Items { first, count } = span else {
+        return Judgement::Refused(Refusal::NotARead);
+    };
+    replied(request, reply, Judgement::Items { first, count })
 }
 
 // Whether a request is a read that the meter it is addressed to would heed.
@@ -68,44 +102,23 @@ fn heard(request: &[u8]) -> bool
     !modbus::silence(address, request)
 }
 
-// The rest of `read`, with the table lent: each use of the constant's name copies the whole table onto the stack.
-fn with_table(
-    table: &[u16],
-    reach: Reach,
-    request: &[u8],
-    reply: &[u8],
-    tenths: u32,
-    index: usize,
-) -> Answer
-    requires { ⌜ Lent (now table) reach ⌝ }
-    ensures { λ r. ⌜ r ≡ onItems (viewOf (now (table .entry)) reach) (readIn (viewOf (now (table .entry)) reach) (now (request .entry))) (λ its. replyOf tenths (now (request .entry)) (now (reply .entry)) its index) ⌝ }
-{
-    let span = modbus::read_in(table, reach, request);
-    let Span::Items { first, count } = span else {
-        return Answer::Refused(Refusal::NotARead);
-    };
-    let asked = directory::part(table, first, count);
-    replied(asked, request, reply, tenths, index)
-}
-
-// What a reply says, to a read of the items `asked`, which are a part of the table.
-fn replied(asked: &[u16], request: &[u8], reply: &[u8], tenths: u32, index: usize) -> Answer
-    requires { ⌜ T (every shaped (items (now asked))) × T (every meant (items (now asked))) ⌝ }
-    requires { ⌜ (length (now request) ≡ 8) × (wordsOf (items (now asked)) ≡ wordNumber (now request)) ⌝ }
-    ensures { λ r. ⌜ r ≡ replyOf tenths (now (request .entry)) (now (reply .entry)) (items (now (asked .entry))) index ⌝ }
+// What a reply to a read comes to: the items asked where it fits.
+fn replied(request: &[u8], reply: &[u8], asked: Judgement) -> Judgement
+    requires { ⌜ length (now request) ≡ 8 ⌝ }
+    ensures { λ r. ⌜ r ≡ replyOf (now (request .entry)) (now (reply .entry)) asked ⌝ }
 {
     let n = reply.len();
     if (n < REPLY_LEAST) | (modbus::FRAME_MOST < n) {
-        return Answer::Refused(Refusal::ReplyLength);
+        return Judgement::Refused(Refusal::ReplyLength);
     }
     if !eight::intact(reply) {
-        return Answer::Refused(Refusal::ReplyCrc);
+        return Judgement::Refused(Refusal::ReplyCrc);
     }
     let function = reply[1];
     if (reply[0] != request[0])
         | ((function != modbus::READ_HOLDING_REGISTERS) & (function != READ_ERROR))
     {
-        return Answer::Refused(Refusal::ReplyForeign);
+        return Judgement::Refused(Refusal::ReplyForeign);
     }
     if function == READ_ERROR {
         return error(reply);
@@ -114,25 +127,25 @@ fn replied(asked: &[u16], request: &[u8], reply: &[u8], tenths: u32, index: usiz
     if (bytes != 2 * words::word_at(request, modbus::WORDS_AT) as usize)
         | (n != REPLY_LEAST + bytes)
     {
-        return Answer::Refused(Refusal::ReplyMisfit);
+        return Judgement::Refused(Refusal::ReplyMisfit);
     }
-    item(asked, reply, tenths, index)
+    asked
 }
 
 // The error code of an error reply.
-fn error(reply: &[u8]) -> Answer
+fn error(reply: &[u8]) -> Judgement
     requires { ⌜ 5 ≤ length (now reply) ⌝ }
     ensures { λ r. ⌜ r ≡ errorOf (now (reply .entry)) ⌝ }
 {
     if reply.len() != REPLY_LEAST {
-        return Answer::Refused(Refusal::ReplyMisfit);
+        return Judgement::Refused(Refusal::ReplyMisfit);
     }
     let code = reply[2];
     match code {
-        1 => Answer::Error(ErrorCode::Function),
-        2 => Answer::Error(ErrorCode::Address),
-        3 => Answer::Error(ErrorCode::Data),
-        _ => Answer::Refused(Refusal::ReplyMisfit),
+        1 => Judgement::Error(ErrorCode::Function),
+        2 => Judgement::Error(ErrorCode::Address),
+        3 => Judgement::Error(ErrorCode::Data),
+        _ => Judgement::Refused(Refusal::ReplyMisfit),
     }
 }
 

@@ -10,9 +10,9 @@ use Rattle.directory.specs.Run.{findIn, runFrom, runIn, wordsOf}
 use Rattle.modbus.specs.Frame.{silence}
 use Rattle.modbus.specs.Read.{readIn}
 use Rattle.reading.specs.Readings.{oneOf, thirteen, readingOf}
-use Rattle.collector.specs.Collector.{heard, itemOf, replyOf, collectorIn}
+use Rattle.collector.specs.Collector.{heard, itemOf, replyOf, judgedIn, collectorIn}
 use Rattle.demands.specs.Starred.{starred, ExamplesHold}
 
 pub examples-hold : ExamplesHold
-unfolding starred shift shifts crcFrom endsIn intact sent valueAt twos powerUnit stepOf directory findIn runFrom runIn wordsOf silence readIn oneOf thirteen readingOf heard itemOf replyOf collectorIn
+unfolding starred shift shifts crcFrom endsIn intact sent valueAt twos powerUnit stepOf directory findIn runFrom runIn wordsOf silence readIn oneOf thirteen readingOf heard itemOf replyOf judgedIn collectorIn
 examples-hold = record { agree = refl }
