@@ -1,7 +1,8 @@
 // Words on the line: two bytes, upper byte first; a long is two words, upper word first (paper 01, "The directory").
 // The callers see to it that place and width fit the buffer, so nothing is tested again here.
 ghost use mathlib.Core.Path.{_≡_};
-ghost use Prim.Native.Nat.{_+_, _*_, _≤_, _<_};
+ghost use Prim.Native.Nat.{_+_, _-_, _*_, _%_, _≤_, _<_};
+ghost use mathlib.Core.Bool.{cond};
 ghost use lib.ListN.{length};
 ghost use lib.Seq.{sets};
 ghost use Rattle.words.specs.Words.{word, sent, wordAt, valueAt};
@@ -56,9 +57,10 @@ pub fn value_at(bytes: &[u8], at: usize, words: usize) -> u32
     }
 }
 
-// A signed number in one word, as two's complement.
-pub fn twos_word(negative: bool, magnitude: u16) -> u16
-    ensures { λ r. ⌜ r ≡ twos 1 negative magnitude ⌝ }
+// Two's complement, where `top` is the largest number that the words hold.
+fn complement(top: u64, negative: bool, magnitude: u64) -> u64
+    requires { ⌜ magnitude ≤ top ⌝ }
+    ensures { λ r. ⌜ (r ≡ cond negative ((top + 1 - magnitude) % (top + 1)) magnitude) × (r ≤ top) ⌝ }
 {
     if !negative {
         return magnitude;
@@ -66,18 +68,19 @@ pub fn twos_word(negative: bool, magnitude: u16) -> u16
     if magnitude == 0 {
         return 0;
     }
-    65535 - (magnitude - 1)
+    top - (magnitude - 1)
+}
+
+// A signed number in one word, as two's complement.
+pub fn twos_word(negative: bool, magnitude: u16) -> u16
+    ensures { λ r. ⌜ r ≡ twos 1 negative magnitude ⌝ }
+{
+    complement(65_535, negative, magnitude as u64) as u16
 }
 
 // A signed number in two words, as two's complement.
 pub fn twos_long(negative: bool, magnitude: u32) -> u32
     ensures { λ r. ⌜ r ≡ twos 2 negative magnitude ⌝ }
 {
-    if !negative {
-        return magnitude;
-    }
-    if magnitude == 0 {
-        return 0;
-    }
-    4_294_967_295 - (magnitude - 1)
+    complement(4_294_967_295, negative, magnitude as u64) as u32
 }
