@@ -9,7 +9,7 @@ use lib.Dec.{T, ltb, eqb}
 use lib.ListN.{length, getD}
 use borrow.Author.Tests.{ltb-true, ltb-false, eqb-true, eqb-false, eq-eqb, ne-eqb, not-false}
 use Rattle.refusal.specs.declared.Refusal.{Refusal}
-use Rattle.refusal.specs.declared.Refusal.the-variants.{MeterOutOfLimits, BufferShort, RatioOutOfLimits, OwnAddressZero, SampleOutOfLimits, EnergyPastTop, NotARead, ReplyLength, ReplyCrc, ReplyForeign, ReplyMisfit, IndexPastItems, ValueImpossible, JoinPastTop}
+use Rattle.refusal.specs.declared.Refusal.the-variants.{RatioOutOfLimits, NotARead, ReplyLength, ReplyCrc, ReplyForeign, ReplyMisfit, IndexPastItems, ValueImpossible}
 use Rattle.refusal.specs.declared.ErrorCode.{ErrorCode}
 use Rattle.refusal.specs.declared.ErrorCode.the-variants.{Function, Address, Data}
 use Rattle.refusal.specs.Numbers.{refusalNumber, errorNumber, refusedBy, errorBy}
@@ -38,7 +38,7 @@ use Rattle.reading.proofs.Told.{one-answer-each}
 use Rattle.collector.specs.declared.Judgement.{Judgement}
 use Rattle.collector.specs.declared.Judgement.the-variants as judgement
 use Rattle.collector.specs.Collector.{heard, lengthWrong, isReadError, foreign, thirdOf, codeOf, errorOf, misfit, replyOf, judgedIn, placeOf, itemOf, onData, collectorIn}
-use Rattle.collector.specs.When.{Asks, Asked, Sound, Fits, Holds, itemAt, valueIn, errorMisfit, ForeignReply, Misfits, Past, Impossible, ReplyGives, GivesCode, Reads, RepliesWhen, NotMisread}
+use Rattle.collector.specs.When.{Asks, Asked, Sound, Fits, askedBy, Holds, itemAt, valueIn, errorMisfit, ForeignReply, Misfits, Past, Impossible, ReplyGives, GivesCode, Reads, RepliesWhen, NotMisread}
 use Rattle.collector.proofs.Places.{run-length, run-at, item-past, item-reads}
 use Rattle.collector.proofs.Judged.{length-refused, crc-refused, foreign-refused, error-given, misfit-refused, data-given, fitting}
 
@@ -80,126 +80,67 @@ module _ (t : ℕ) (it : Item) (v : ℕ) where
   possible h = rw h refl
 
 module _ (v : View) (good : T (passes v)) where
-  -- ---- each row and rule leads to its answer
+  -- ---- request and reply: each row and rule leads to its judgement
 
-  -- the rows of the table by their reasons; the others are never given to a reading
-  abbrev Row : Refusal → List ℕ → List ℕ → Ratios → ℕ → Type 0
-  Row RatioOutOfLimits request reply r index = ratiosOk r ≡ false
-  Row NotARead request reply r index = (ratiosOk r ≡ true) × (Asks v request → ⊥)
-  Row ReplyLength request reply r index = Asked v request r × (lengthWrong reply ≡ true)
-  Row ReplyCrc request reply r index = Asked v request r × (lengthWrong reply ≡ false) × (intact reply ≡ false)
-  Row ReplyForeign request reply r index = ForeignReply v request reply r
-  Row ReplyMisfit request reply r index = Misfits v request reply r
-  Row IndexPastItems request reply r index = Past v request reply r index
-  Row ValueImpossible request reply r index = Impossible v request reply r index
-  Row MeterOutOfLimits request reply r index = ⊥
-  Row BufferShort request reply r index = ⊥
-  Row OwnAddressZero request reply r index = ⊥
-  Row SampleOutOfLimits request reply r index = ⊥
-  Row EnergyPastTop request reply r index = ⊥
-  Row JoinPastTop request reply r index = ⊥
+  module _ (request reply : List ℕ) (r : Ratios) where
+    abbrev judged : Judgement
+    judged = judgedIn v request reply r
 
-  module _ (request reply : List ℕ) (r : Ratios) (index : ℕ) where
-    abbrev answer : Answer
-    answer = collectorIn v request reply r index
+    -- 3 and 7 to 11
+    pub data Row : Refusal → Type 0 where
+      row-3 : ratiosOk r ≡ false → Row RatioOutOfLimits
+      row-7 : ratiosOk r ≡ true → (Asks v request → ⊥) → Row NotARead
+      row-8 : Asked v request r × (lengthWrong reply ≡ true) → Row ReplyLength
+      row-9 : Asked v request r × (lengthWrong reply ≡ false) × (intact reply ≡ false) → Row ReplyCrc
+      row-10 : ForeignReply v request reply r → Row ReplyForeign
+      row-11 : Misfits v request reply r → Row ReplyMisfit
 
-    -- what is given once request and reply are judged
-    abbrev on : Judgement → Answer
-    on judged = onData v judged (λ its. itemOf (tOf r) its reply index)
-
-    to-reply : (a : Asked v request r) → answer ≡ on (replyOf request reply (judgement.Items (a .asks .first) (a .asks .count)))
-    unfolding collectorIn judgedIn
+    to-reply : (a : Asked v request r) → judged ≡ replyOf request reply (judgement.Items (a .asks .first) (a .asks .count))
+    unfolding judgedIn
     to-reply a = rw (a .ratios, a .asks .hears, a .asks .items) refl
 
-    to-item : (f : Fits v request reply r) → answer ≡ itemOf (tOf r) (runItems (v .seen) (f .sound .asked .asks .first) (f .sound .asked .asks .count)) reply index
-    to-item f =
-        let h = f .sound in
-        to-reply (h .asked) ∙ ap on (sym (data-given request reply (judgement.Items (h .asked .asks .first) (h .asked .asks .count)) (h .long) (h .whole) (h .own) (f .words) (f .fits)))
-
-    to-reading : (h : Holds v request reply r index) → answer ≡ readingOf (tOf r) (itemAt v (h .fits .sound .asked .asks) index) (valueIn v (h .fits .sound .asked .asks) reply index)
-    to-reading h =
-        let a = h .fits .sound .asked .asks in
-        let its = runItems (v .seen) (a .first) (a .count) in
-        to-item (h .fits)
-        ∙ item-reads (tOf r) its reply index (omega (arith, h .below, run-length (v .seen) (a .first) (a .count) (legal-read v good (a .items) .inside)))
-        ∙ ap (λ (it : Item). readingOf (tOf r) it (valueAt (it .words) reply (placeOf its index))) (run-at (v .seen) (a .first) (a .count) index (h .below))
-
-    ratio-row : ratiosOk r ≡ false → answer ≡ Refused RatioOutOfLimits
-    unfolding collectorIn judgedIn
+    ratio-row : ratiosOk r ≡ false → judged ≡ judgement.Refused RatioOutOfLimits
+    unfolding judgedIn
     ratio-row h = rw h refl
 
-    request-row : ratiosOk r ≡ true → (Asks v request → ⊥) → answer ≡ Refused NotARead
-    unfolding collectorIn judgedIn
+    request-row : ratiosOk r ≡ true → (Asks v request → ⊥) → judged ≡ judgement.Refused NotARead
+    unfolding judgedIn
     request-row ok other = by (heard request) (readIn v request) refl refl
       where
-        by : (t : Bool) (s : Span) → heard request ≡ t → readIn v request ≡ s → answer ≡ Refused NotARead
+        by : (t : Bool) (s : Span) → heard request ≡ t → readIn v request ≡ s → judged ≡ judgement.Refused NotARead
         by false s e f = rw (ok, e) refl
         by true (span.Error code) e f = rw (ok, e, f) refl
         by true (span.Items first count) e f = absurd (other (record { hears = e; first = first; count = count; items = f }))
 
-    row : (reason : Refusal) → Row reason request reply r index → answer ≡ Refused reason
-    row RatioOutOfLimits h = ratio-row h
-    row NotARead h = request-row (h .0) (h .1)
-    row ReplyLength h = to-reply (h .0) ∙ ap on (sym (length-refused _ _ _ (h .1)))
-    row ReplyCrc h = to-reply (h .0) ∙ ap on (sym (crc-refused _ _ _ (h .1) (h .2)))
-    row ReplyForeign h = to-reply (h .0) ∙ ap on (sym (foreign-refused _ _ _ (h .1) (h .2) (h .3)))
-    row ReplyMisfit (h, inl m) =
-        to-reply (h .asked) ∙ ap on (sym (error-given _ _ _ (h .long) (h .whole) (h .own) (m .0)) ∙ error-refused reply (m .1))
-    row ReplyMisfit (h, inr m) = to-reply (h .asked) ∙ ap on (sym (misfit-refused _ _ _ (h .long) (h .whole) (h .own) (m .0) (m .1)))
-    row IndexPastItems h =
-        let a = h .fits .sound .asked .asks in
-        to-item (h .fits) ∙ sym (item-past _ _ _ _ (omega (arith, h .past, run-length (v .seen) (a .first) (a .count) (legal-read v good (a .items) .inside))))
-    row ValueImpossible h = to-reading (h .holds) ∙ impossible _ _ _ (h .value)
-    row MeterOutOfLimits h = absurd h
-    row BufferShort h = absurd h
-    row OwnAddressZero h = absurd h
-    row SampleOutOfLimits h = absurd h
-    row EnergyPastTop h = absurd h
-    row JoinPastTop h = absurd h
+    pub refused : {reason : Refusal} → Row reason → judged ≡ judgement.Refused reason
+    refused (row-3 h) = ratio-row h
+    refused (row-7 ok other) = request-row ok other
+    refused (row-8 h) = to-reply (h .0) ∙ sym (length-refused _ _ _ (h .1))
+    refused (row-9 h) = to-reply (h .0) ∙ sym (crc-refused _ _ _ (h .1) (h .2))
+    refused (row-10 h) = to-reply (h .0) ∙ sym (foreign-refused _ _ _ (h .1) (h .2) (h .3))
+    refused (row-11 (h, inl m)) =
+        to-reply (h .asked) ∙ sym (error-given _ _ _ (h .long) (h .whole) (h .own) (m .0)) ∙ error-refused reply (m .1)
+    refused (row-11 (h, inr m)) = to-reply (h .asked) ∙ sym (misfit-refused _ _ _ (h .long) (h .whole) (h .own) (m .0) (m .1))
 
-    errs : (code : ErrorCode) → GivesCode v request reply r (errorNumber code) → answer ≡ Error code
-    errs code h =
+    pub coded : (code : ErrorCode) → GivesCode v request reply r (errorNumber code) → judged ≡ judgement.Error code
+    coded code h =
         let s = h .sound in
-        to-reply (s .asked) ∙ ap on (sym (error-given _ _ _ (s .long) (s .whole) (s .own) (h .error)) ∙ error-code reply code (h .long) (h .says))
+        to-reply (s .asked) ∙ sym (error-given _ _ _ (s .long) (s .whole) (s .own) (h .error)) ∙ error-code reply code (h .long) (h .says)
 
-    reading : (q : Quantity) → Reads v request reply r index q → answer ≡ Reading q
-    reading q h = to-reading (h .holds) ∙ h .reading
+    pub held : (f : Fits v request reply r) → judged ≡ judgement.Items (askedBy v f .first) (askedBy v f .count)
+    held f =
+        let h = f .sound in
+        to-reply (h .asked) ∙ sym (data-given request reply (judgement.Items (h .asked .asks .first) (h .asked .asks .count)) (h .long) (h .whole) (h .own) (f .words) (f .fits))
 
-  -- ---- every call comes to one of them
+    -- ---- every request with its reply comes to one of them
 
-  pub data Outcome (request reply : List ℕ) (r : Ratios) (index : ℕ) : Type 0 where
-    refuses : (reason : Refusal) → Row reason request reply r index → Outcome request reply r index
-    errors : (code : ErrorCode) → GivesCode v request reply r (errorNumber code) → Outcome request reply r index
-    tells : (q : Quantity) → Reads v request reply r index q → Outcome request reply r index
-
-  module _ (request reply : List ℕ) (r : Ratios) (index : ℕ) where
-    abbrev Found : Type 0
-    Found = Outcome request reply r index
-
-    -- 13, or the reading
-    at-item : (h : Holds v request reply r index) → Found
-    at-item h = by (thirteen (itemAt v a index) (valueIn v a reply index)) refl
-      where
-        a : Asks v request
-        a = h .fits .sound .asked .asks
-
-        by : (t : Bool) → thirteen (itemAt v a index) (valueIn v a reply index) ≡ t → Found
-        by true e = refuses ValueImpossible (record { holds = h; value = e })
-        by false e = tells _ (record { holds = h; reading = possible _ _ _ e })
-
-    -- 12
-    at-index : (f : Fits v request reply r) → Found
-    at-index f = by (ltb index n) refl
-      where
-        n : ℕ
-        n = f .sound .asked .asks .count
-
-        by : (t : Bool) → ltb index n ≡ t → Found
-        by true e = at-item (record { fits = f; below = ltb-true index n e })
-        by false e = refuses IndexPastItems (record { fits = f; past = ltb-false index n e })
+    pub data Judging : Type 0 where
+      refuses : (reason : Refusal) → Row reason → Judging
+      errors : (code : ErrorCode) → GivesCode v request reply r (errorNumber code) → Judging
+      holds : Fits v request reply r → Judging
 
     -- the code of an error reply
-    at-code : (h : Sound v request reply r) → isReadError reply ≡ true → errorMisfit reply ≡ false → Found
+    at-code : (h : Sound v request reply r) → isReadError reply ≡ true → errorMisfit reply ≡ false → Judging
     at-code h e m = by (eqb n 1) (eqb n 2) refl refl
       where
         n : ℕ
@@ -214,42 +155,42 @@ module _ (v : View) (good : T (passes v)) where
         range : (1 ≤ n) × (n ≤ 3)
         range = let t = neither (ltb n 1) (ltb 3 n) (parts .1) in (ltb-false n 1 (t .0), ltb-false 3 n (t .1))
 
-        by : (a b : Bool) → eqb n 1 ≡ a → eqb n 2 ≡ b → Found
+        by : (a b : Bool) → eqb n 1 ≡ a → eqb n 2 ≡ b → Judging
         by true b x y = errors Function (record { sound = h; error = e; long = five; says = eqb-true n 1 x; some = omega arith; most = omega arith })
         by false true x y = errors Address (record { sound = h; error = e; long = five; says = eqb-true n 2 y; some = omega arith; most = omega arith })
         by false false x y = errors Data (record { sound = h; error = e; long = five; says = omega (arith, range, eqb-false n 1 x, eqb-false n 2 y); some = omega arith; most = omega arith })
 
     -- 11
-    at-shape : (h : Sound v request reply r) → Found
+    at-shape : (h : Sound v request reply r) → Judging
     at-shape h = by (isReadError reply) (errorMisfit reply) (misfit request reply) refl refl refl
       where
-        by : (e m d : Bool) → isReadError reply ≡ e → errorMisfit reply ≡ m → misfit request reply ≡ d → Found
-        by true true d x y z = refuses ReplyMisfit (h, inl (x, y))
+        by : (e m d : Bool) → isReadError reply ≡ e → errorMisfit reply ≡ m → misfit request reply ≡ d → Judging
+        by true true d x y z = refuses ReplyMisfit (row-11 (h, inl (x, y)))
         by true false d x y z = at-code h x y
-        by false m true x y z = refuses ReplyMisfit (h, inr (x, z))
-        by false m false x y z = at-index (record { sound = h; words = x; fits = z })
+        by false m true x y z = refuses ReplyMisfit (row-11 (h, inr (x, z)))
+        by false m false x y z = holds (record { sound = h; words = x; fits = z })
 
     -- 8 to 10
-    at-reply : (a : Asked v request r) → Found
+    at-reply : (a : Asked v request r) → Judging
     at-reply a = by (lengthWrong reply) (intact reply) (foreign request reply) refl refl refl
       where
-        by : (l i f : Bool) → lengthWrong reply ≡ l → intact reply ≡ i → foreign request reply ≡ f → Found
-        by true i f x y z = refuses ReplyLength (a, x)
-        by false false f x y z = refuses ReplyCrc (a, x, y)
-        by false true true x y z = refuses ReplyForeign (a, x, y, z)
+        by : (l i f : Bool) → lengthWrong reply ≡ l → intact reply ≡ i → foreign request reply ≡ f → Judging
+        by true i f x y z = refuses ReplyLength (row-8 (a, x))
+        by false false f x y z = refuses ReplyCrc (row-9 (a, x, y))
+        by false true true x y z = refuses ReplyForeign (row-10 (a, x, y, z))
         by false true false x y z = at-shape (record { asked = a; long = x; whole = y; own = z })
 
     -- 3 and 7
-    outcome : Found
-    outcome = by (ratiosOk r) (heard request) (readIn v request) refl refl refl
+    pub judging : Judging
+    judging = by (ratiosOk r) (heard request) (readIn v request) refl refl refl
       where
-        by : (o h : Bool) (s : Span) → ratiosOk r ≡ o → heard request ≡ h → readIn v request ≡ s → Found
-        by false h s x y z = refuses RatioOutOfLimits x
-        by true false s x y z = refuses NotARead (x, λ asks. false≢true (sym y ∙ asks .hears))
-        by true true (span.Error code) x y z = refuses NotARead (x, λ asks. no-run code z (asks .items))
+        by : (o h : Bool) (s : Span) → ratiosOk r ≡ o → heard request ≡ h → readIn v request ≡ s → Judging
+        by false h s x y z = refuses RatioOutOfLimits (row-3 x)
+        by true false s x y z = refuses NotARead (row-7 x (λ asks. false≢true (sym y ∙ asks .hears)))
+        by true true (span.Error code) x y z = refuses NotARead (row-7 x (λ asks. no-run code z (asks .items)))
         by true true (span.Items first count) x y z = at-reply (record { ratios = x; asks = record { hears = y; first = first; count = count; items = z } })
 
-  -- ---- and to no two
+  -- ---- an item of it
 
   abbrev quantityIn : Quantity → Answer → Quantity
   quantityIn d (Reading q) = q
@@ -260,48 +201,142 @@ module _ (v : View) (good : T (passes v)) where
     abbrev given : Answer
     given = collectorIn v request reply r index
 
+    -- what is given once request and reply are judged
+    abbrev on : Judgement → Answer
+    on judgement = onData v judgement (λ its. itemOf (tOf r) its reply index)
+
+    pub to-judged : given ≡ on (judgedIn v request reply r)
+    unfolding collectorIn
+    to-judged = refl
+
+    to-reading : (h : Holds v request reply r index) → given ≡ readingOf (tOf r) (itemAt v (h .fits .sound .asked .asks) index) (valueIn v (h .fits .sound .asked .asks) reply index)
+    to-reading h =
+        let a = h .fits .sound .asked .asks in
+        let its = runItems (v .seen) (a .first) (a .count) in
+        to-judged
+        ∙ ap on (held request reply r (h .fits))
+        ∙ item-reads (tOf r) its reply index (omega (arith, h .below, run-length (v .seen) (a .first) (a .count) (legal-read v good (a .items) .inside)))
+        ∙ ap (λ (it : Item). readingOf (tOf r) it (valueAt (it .words) reply (placeOf its index))) (run-at (v .seen) (a .first) (a .count) index (h .below))
+
+    -- the rows of an item's call
+    data Refuses : Refusal → Type 0 where
+      by-row : {reason : Refusal} → Row request reply r reason → Refuses reason
+      row-12 : Past v request reply r index → Refuses IndexPastItems
+      row-13 : Impossible v request reply r index → Refuses ValueImpossible
+
+    item-refused : {reason : Refusal} → Refuses reason → given ≡ Refused reason
+    item-refused (by-row w) = to-judged ∙ ap on (refused request reply r w)
+    item-refused (row-12 h) =
+        let a = h .fits .sound .asked .asks in
+        to-judged ∙ ap on (held request reply r (h .fits)) ∙ sym (item-past _ _ _ _ (omega (arith, h .past, run-length (v .seen) (a .first) (a .count) (legal-read v good (a .items) .inside))))
+    item-refused (row-13 h) = to-reading (h .holds) ∙ impossible _ _ _ (h .value)
+
+    item-coded : (code : ErrorCode) → GivesCode v request reply r (errorNumber code) → given ≡ Error code
+    item-coded code h = to-judged ∙ ap on (coded request reply r code h)
+
+    pub item-read : (q : Quantity) → Reads v request reply r index q → given ≡ Reading q
+    item-read q h = to-reading (h .holds) ∙ h .reading
+
+    -- ---- every call comes to one of them
+
+    data Outcome : Type 0 where
+      refused-as : (reason : Refusal) → Refuses reason → Outcome
+      error-as : (code : ErrorCode) → GivesCode v request reply r (errorNumber code) → Outcome
+      tells : (q : Quantity) → Reads v request reply r index q → Outcome
+
+    -- 13, or the reading
+    at-item : (h : Holds v request reply r index) → Outcome
+    at-item h = by (thirteen (itemAt v a index) (valueIn v a reply index)) refl
+      where
+        a : Asks v request
+        a = h .fits .sound .asked .asks
+
+        by : (t : Bool) → thirteen (itemAt v a index) (valueIn v a reply index) ≡ t → Outcome
+        by true e = refused-as ValueImpossible (row-13 (record { holds = h; value = e }))
+        by false e = tells _ (record { holds = h; reading = possible _ _ _ e })
+
+    -- 12
+    at-index : (f : Fits v request reply r) → Outcome
+    at-index f = by (ltb index n) refl
+      where
+        n : ℕ
+        n = f .sound .asked .asks .count
+
+        by : (t : Bool) → ltb index n ≡ t → Outcome
+        by true e = at-item (record { fits = f; below = ltb-true index n e })
+        by false e = refused-as IndexPastItems (row-12 (record { fits = f; past = ltb-false index n e }))
+
+    outcome : Outcome
+    outcome = by (judging request reply r)
+      where
+        by : Judging request reply r → Outcome
+        by (refuses reason w) = refused-as reason (by-row w)
+        by (errors code e) = error-as code e
+        by (holds f) = at-index f
+
+    -- ---- and to no two
+
     -- what each outcome says in numbers
-    refuses-told : (reason : Refusal) → Row reason request reply r index → ReplyGives v request reply r index (refusedBy (refusalNumber reason))
-    refuses-told reason w = ap told (row request reply r index reason w)
+    refuses-told : {reason : Refusal} → Refuses reason → ReplyGives v request reply r index (refusedBy (refusalNumber reason))
+    refuses-told w = ap told (item-refused w)
 
     errors-told : (code : ErrorCode) → GivesCode v request reply r (errorNumber code) → ReplyGives v request reply r index (errorBy (errorNumber code))
-    errors-told code e = ap told (errs request reply r index code e)
+    errors-told code e = ap told (item-coded code e)
 
     -- a refusal is due to its row
-    only-row : (reason : Refusal) → given ≡ Refused reason → Outcome request reply r index → Row reason request reply r index
-    only-row reason h (refuses x w) = subst (λ (y : Refusal). Row y request reply r index) (one-reason-each .refusals x reason (ap numberIn (sym (refuses-told x w) ∙ ap told h))) w
-    only-row reason h (errors code e) = absurd (let z = ap caseIn (sym (errors-told code e) ∙ ap told h) in omega (arith, z))
-    only-row reason h (tells q e) = absurd (let z = ap caseIn (ap told (sym (reading request reply r index q e) ∙ h)) in omega (arith, z))
+    only-row : (reason : Refusal) → given ≡ Refused reason → Outcome → Refuses reason
+    only-row reason h (refused-as x w) = subst Refuses (one-reason-each .refusals x reason (ap numberIn (sym (refuses-told w) ∙ ap told h))) w
+    only-row reason h (error-as code e) = absurd (let z = ap caseIn (sym (errors-told code e) ∙ ap told h) in omega (arith, z))
+    only-row reason h (tells q e) = absurd (let z = ap caseIn (ap told (sym (item-read q e) ∙ h)) in omega (arith, z))
 
-    by-number : (reason : Refusal) → ReplyGives v request reply r index (refusedBy (refusalNumber reason)) ↔ Row reason request reply r index
-    by-number reason = (λ h. only-row reason (one-answer-each .answers given (Refused reason) h) (outcome request reply r index), refuses-told reason)
+    by-number : (reason : Refusal) {Says : Type 0} → (Refuses reason → Says) → (Says → Refuses reason) → ReplyGives v request reply r index (refusedBy (refusalNumber reason)) ↔ Says
+    by-number reason to from = (λ h. to (only-row reason (one-answer-each .answers given (Refused reason) h) outcome), λ w. refuses-told (from w))
+
+    -- what each row says
+    three : Refuses RatioOutOfLimits → ratiosOk r ≡ false
+    three (by-row (row-3 h)) = h
+
+    seven : Refuses NotARead → (ratiosOk r ≡ true) × (Asks v request → ⊥)
+    seven (by-row (row-7 ok other)) = (ok, other)
+
+    eight : Refuses ReplyLength → Asked v request r × (lengthWrong reply ≡ true)
+    eight (by-row (row-8 h)) = h
+
+    nine : Refuses ReplyCrc → Asked v request r × (lengthWrong reply ≡ false) × (intact reply ≡ false)
+    nine (by-row (row-9 h)) = h
+
+    ten : Refuses ReplyForeign → ForeignReply v request reply r
+    ten (by-row (row-10 h)) = h
+
+    eleven : Refuses ReplyMisfit → Misfits v request reply r
+    eleven (by-row (row-11 h)) = h
+
+    twelve : Refuses IndexPastItems → Past v request reply r index
+    twelve (row-12 h) = h
+
+    thirteenth : Refuses ValueImpossible → Impossible v request reply r index
+    thirteenth (row-13 h) = h
 
     -- the numbers of the rows
-    numbered : (reason : Refusal) → Row reason request reply r index → (refusalNumber reason ≡ 3) ⊎ ((7 ≤ refusalNumber reason) × (refusalNumber reason ≤ 13))
-    numbered RatioOutOfLimits w = inl refl
-    numbered NotARead w = inr (omega arith, omega arith)
-    numbered ReplyLength w = inr (omega arith, omega arith)
-    numbered ReplyCrc w = inr (omega arith, omega arith)
-    numbered ReplyForeign w = inr (omega arith, omega arith)
-    numbered ReplyMisfit w = inr (omega arith, omega arith)
-    numbered IndexPastItems w = inr (omega arith, omega arith)
-    numbered ValueImpossible w = inr (omega arith, omega arith)
-    numbered MeterOutOfLimits w = absurd w
-    numbered BufferShort w = absurd w
-    numbered OwnAddressZero w = absurd w
-    numbered SampleOutOfLimits w = absurd w
-    numbered EnergyPastTop w = absurd w
-    numbered JoinPastTop w = absurd w
+    numbered : {reason : Refusal} → Refuses reason → (refusalNumber reason ≡ 3) ⊎ ((7 ≤ refusalNumber reason) × (refusalNumber reason ≤ 13))
+    numbered (by-row (row-3 h)) = inl refl
+    numbered (by-row (row-7 ok other)) = inr (omega arith, omega arith)
+    numbered (by-row (row-8 h)) = inr (omega arith, omega arith)
+    numbered (by-row (row-9 h)) = inr (omega arith, omega arith)
+    numbered (by-row (row-10 h)) = inr (omega arith, omega arith)
+    numbered (by-row (row-11 h)) = inr (omega arith, omega arith)
+    numbered (row-12 h) = inr (omega arith, omega arith)
+    numbered (row-13 h) = inr (omega arith, omega arith)
 
-    only : (n : ℕ) → ReplyGives v request reply r index (refusedBy n) → Outcome request reply r index → (n ≡ 3) ⊎ ((7 ≤ n) × (n ≤ 13))
-    only n h (refuses x w) = subst (λ (k : ℕ). (k ≡ 3) ⊎ ((7 ≤ k) × (k ≤ 13))) (ap numberIn (sym (refuses-told x w) ∙ h)) (numbered x w)
-    only n h (errors code e) = absurd (let z = ap caseIn (sym (errors-told code e) ∙ h) in omega (arith, z))
-    only n h (tells q e) = absurd (let z = ap caseIn (sym (ap told (reading request reply r index q e)) ∙ h) in omega (arith, z))
+    only : (n : ℕ) → ReplyGives v request reply r index (refusedBy n) → Outcome → (n ≡ 3) ⊎ ((7 ≤ n) × (n ≤ 13))
+    only n h (refused-as x w) = subst (λ (k : ℕ). (k ≡ 3) ⊎ ((7 ≤ k) × (k ≤ 13))) (ap numberIn (sym (refuses-told w) ∙ h)) (numbered w)
+    only n h (error-as code e) = absurd (let z = ap caseIn (sym (errors-told code e) ∙ h) in omega (arith, z))
+    only n h (tells q e) = absurd (let z = ap caseIn (sym (ap told (item-read q e)) ∙ h) in omega (arith, z))
 
-    only-error : (n : ℕ) → ReplyGives v request reply r index (errorBy n) → Outcome request reply r index → GivesCode v request reply r n
-    only-error n h (refuses x w) = absurd (let z = ap caseIn (sym (refuses-told x w) ∙ h) in omega (arith, z))
-    only-error n h (errors code e) = subst (λ (k : ℕ). GivesCode v request reply r k) (ap numberIn (sym (errors-told code e) ∙ h)) e
-    only-error n h (tells q e) = absurd (let z = ap caseIn (sym (ap told (reading request reply r index q e)) ∙ h) in omega (arith, z))
+    only-error : (n : ℕ) → ReplyGives v request reply r index (errorBy n) → Outcome → GivesCode v request reply r n
+    only-error n h (refused-as x w) = absurd (let z = ap caseIn (sym (refuses-told w) ∙ h) in omega (arith, z))
+    only-error n h (error-as code e) = subst (λ (k : ℕ). GivesCode v request reply r k) (ap numberIn (sym (errors-told code e) ∙ h)) e
+    only-error n h (tells q e) = absurd (let z = ap caseIn (sym (ap told (item-read q e)) ∙ h) in omega (arith, z))
 
     -- a code that is 1, 2 or 3 has its name
     errs-told : (n : ℕ) → GivesCode v request reply r n → ReplyGives v request reply r index (errorBy n)
@@ -311,24 +346,24 @@ module _ (v : View) (good : T (passes v)) where
     errs-told (suc (suc (suc zero))) e = errors-told Data e
     errs-told (suc (suc (suc (suc n)))) e = absurd (omega (arith, e .most))
 
-    only-reading : (q : Quantity) → given ≡ Reading q → Outcome request reply r index → Reads v request reply r index q
-    only-reading q h (refuses x w) = absurd (let z = ap caseIn (sym (refuses-told x w) ∙ ap told h) in omega (arith, z))
-    only-reading q h (errors code e) = absurd (let z = ap caseIn (sym (errors-told code e) ∙ ap told h) in omega (arith, z))
-    only-reading q h (tells x e) = subst (λ (c : Quantity). Reads v request reply r index c) (ap (quantityIn q) (sym (reading request reply r index x e) ∙ h)) e
+    only-reading : (q : Quantity) → given ≡ Reading q → Outcome → Reads v request reply r index q
+    only-reading q h (refused-as x w) = absurd (let z = ap caseIn (sym (refuses-told w) ∙ ap told h) in omega (arith, z))
+    only-reading q h (error-as code e) = absurd (let z = ap caseIn (sym (errors-told code e) ∙ ap told h) in omega (arith, z))
+    only-reading q h (tells x e) = subst (λ (c : Quantity). Reads v request reply r index c) (ap (quantityIn q) (sym (item-read x e) ∙ h)) e
 
     pub replies-when : RepliesWhen v request reply r index
     replies-when = record {
-      row-3 = by-number RatioOutOfLimits;
-      row-7 = by-number NotARead;
-      row-8 = by-number ReplyLength;
-      row-9 = by-number ReplyCrc;
-      row-10 = by-number ReplyForeign;
-      row-11 = by-number ReplyMisfit;
-      row-12 = by-number IndexPastItems;
-      row-13 = by-number ValueImpossible;
-      only = λ n h. only n h (outcome request reply r index);
-      error = λ n. (λ h. only-error n h (outcome request reply r index), errs-told n);
-      reading = λ q. (λ h. only-reading q h (outcome request reply r index), reading request reply r index q);
+      row-3 = by-number RatioOutOfLimits three (λ h. by-row (row-3 h));
+      row-7 = by-number NotARead seven (λ h. by-row (row-7 (h .0) (h .1)));
+      row-8 = by-number ReplyLength eight (λ h. by-row (row-8 h));
+      row-9 = by-number ReplyCrc nine (λ h. by-row (row-9 h));
+      row-10 = by-number ReplyForeign ten (λ h. by-row (row-10 h));
+      row-11 = by-number ReplyMisfit eleven (λ h. by-row (row-11 h));
+      row-12 = by-number IndexPastItems twelve row-12;
+      row-13 = by-number ValueImpossible thirteenth row-13;
+      only = λ n h. only n h outcome;
+      error = λ n. (λ h. only-error n h outcome, errs-told n);
+      reading = λ q. (λ h. only-reading q h outcome, item-read q);
     }
 
 -- ---- what follows
