@@ -14,7 +14,7 @@ use Rattle.directory.specs.Run.{runItems, wordsOf}
 use Rattle.directory.specs.Views.{viewOf, Lent}
 use Rattle.directory.proofs.Order.{every-run}
 use Rattle.directory.proofs.Views.{tested-shaped, tested-meant, passes-tested}
-use Rattle.modbus.proofs.Judged.{asked-part}
+use Rattle.modbus.proofs.Judged.{legal-read, asked-part}
 use Rattle.collector.specs.declared.Judgement.the-variants.{Items}
 use Rattle.collector.specs.Collector.{judgedIn}
 use Rattle.collector.proofs.Judged.{data-judged, fitting}
@@ -29,6 +29,8 @@ pub record DataPart (t : List ℕ) (reach : Reach) (reply : List ℕ) (first cou
   pub shapely : T (every shaped (items (partOf t first count)))
   pub means : T (every meant (items (partOf t first count)))
   pub words : 3 + 2 * wordsOf (items (partOf t first count)) ≤ length reply
+  pub few : wordsOf (items (partOf t first count)) ≤ 125
+  pub seen : first + count ≤ length (viewOf t reach .seen)
 
 pub data-part : (t : List ℕ) (reach : Reach) → Lent t reach → (request reply : List ℕ) (r : Ratios) (first count : ℕ) → judgedIn (viewOf t reach) request reply r ≡ Items first count → DataPart t reach reply first count
 data-part t reach lent request reply r first count e =
@@ -42,4 +44,6 @@ data-part t reach lent request reply r first count e =
       shapely = subst (λ (its : List Item). T (every shaped its)) (sym (a .holds)) (every-run shaped (v .seen) first count (tested-shaped (v .seen) good));
       means = subst (λ (its : List Item). T (every meant its)) (sym (a .holds)) (every-run meant (v .seen) first count (tested-meant (v .seen) good));
       words = omega (arith, fitting request reply (f .fits), a .sends);
+      few = omega (arith, a .sends, a .room);
+      seen = legal-read v (lent .good) (f .items) .inside;
     }

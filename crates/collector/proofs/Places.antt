@@ -1,8 +1,8 @@
 -- Where the words of an item stand: behind those of the items before it.
-use mathlib.Core.Path.{_≡_, refl, _∙_}
+use mathlib.Core.Path.{_≡_, refl, ap, _∙_}
 use mathlib.Core.Bool.{Bool, true, false}
 use mathlib.Core.List.{List, [], _∷_}
-use Prim.Native.Nat.{ℕ, zero, suc, _+_, _≤_, _<_}
+use Prim.Native.Nat.{ℕ, zero, suc, _+_, _*_, _≤_, _<_}
 use native.Mathlib.Omega.{arith}
 use lib.Dec.{T}
 use lib.ListN.{length, getD, take, drop, length-drop}
@@ -12,7 +12,7 @@ use Rattle.refusal.specs.declared.Refusal.the-variants.{IndexPastItems}
 use Rattle.words.specs.Words.{valueAt}
 use Rattle.directory.specs.declared.Item.{Item}
 use Rattle.directory.specs.Item.{none}
-use Rattle.directory.specs.Order.{every, shaped}
+use Rattle.directory.specs.Order.{every, shaped, meant}
 use Rattle.directory.specs.Run.{isL, runItems, wordsOf}
 use Rattle.directory.proofs.Order.{Narrow, every-at}
 use Rattle.directory.proofs.Shapes.{shape}
@@ -41,6 +41,24 @@ narrow-at its t i h = by (isL (getD its i none)) refl
     by : (l : Bool) → isL (getD its i none) ≡ l → Narrow (getD its i none)
     by true e = let two = eqb-true (getD its i none .words) 2 e in record { some = omega (arith, two); few = omega (arith, two) }
     by false e = let one = shape (getD its i none) (every-at shaped its t i h) .short e .0 in record { some = omega (arith, one); few = omega (arith, one) }
+
+-- what is known of an item whose words stand at a place of a reply
+pub record Known (its : List Item) (reply : List ℕ) (index at : ℕ) (it : Item) : Type 0 where
+  pub is : it ≡ getD its index none
+  pub shapely : shaped it ≡ true
+  pub means : meant it ≡ true
+  pub narrow : Narrow it
+  pub room : at + 2 * it .words ≤ length reply
+
+pub known : (its : List Item) (reply : List ℕ) → T (every shaped its) × T (every meant its) → 3 + 2 * wordsOf its ≤ length reply → (index at : ℕ) (it : Item) → index < length its → at ≡ placeOf its index → it ≡ getD its index none → Known its reply index at it
+known its reply good room index at it inside here is =
+    record {
+      is = is;
+      shapely = rw is (every-at shaped its (good .0) index inside);
+      means = rw is (every-at meant its (good .1) index inside);
+      narrow = rw is (narrow-at its (good .0) index inside);
+      room = omega (arith, here, ap (λ (it : Item). it .words) is, words-within its index inside, room);
+    }
 
 -- ---- a run, and the items of it
 

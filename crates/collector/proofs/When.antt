@@ -21,6 +21,7 @@ use Rattle.ratio.specs.Ratios.{ratiosOk, tOf}
 use Rattle.directory.specs.declared.Item.{Item}
 use Rattle.directory.specs.declared.Span.{Span}
 use Rattle.directory.specs.declared.Span.the-variants as span
+use Rattle.directory.specs.Item.{none}
 use Rattle.directory.specs.Run.{runItems}
 use Rattle.directory.specs.Views.{View, passes}
 use Rattle.directory.proofs.Errors.{no-run}
@@ -38,6 +39,7 @@ use Rattle.reading.proofs.Told.{one-answer-each}
 use Rattle.collector.specs.declared.Judgement.{Judgement}
 use Rattle.collector.specs.declared.Judgement.the-variants as judgement
 use Rattle.collector.specs.Collector.{heard, lengthWrong, isReadError, foreign, thirdOf, codeOf, errorOf, misfit, replyOf, judgedIn, placeOf, itemOf, onData, collectorIn}
+use Rattle.collector.specs.Whole.{isThirteen}
 use Rattle.collector.specs.When.{Asks, Asked, Sound, Fits, askedBy, Holds, itemAt, valueIn, errorMisfit, ForeignReply, Misfits, Past, Impossible, ReplyGives, GivesCode, Reads, RepliesWhen, NotMisread}
 use Rattle.collector.proofs.Places.{run-length, run-at, item-past, item-reads}
 use Rattle.collector.proofs.Judged.{length-refused, crc-refused, foreign-refused, error-given, misfit-refused, data-given, fitting}
@@ -71,13 +73,30 @@ error-code reply Data five says = simp (eq-eqb (length reply) 5 five, says)
 -- ---- the value of an item
 
 module _ (t : ℕ) (it : Item) (v : ℕ) where
-  impossible : thirteen it v ≡ true → readingOf t it v ≡ Refused ValueImpossible
+  pub impossible : thirteen it v ≡ true → readingOf t it v ≡ Refused ValueImpossible
   unfolding readingOf
   impossible h = rw h refl
 
-  possible : thirteen it v ≡ false → readingOf t it v ≡ Reading (getD (quantitiesOf t it v) (it .quantity / 64) (Plain v))
+  pub possible : thirteen it v ≡ false → readingOf t it v ≡ Reading (getD (quantitiesOf t it v) (it .quantity / 64) (Plain v))
   unfolding readingOf
   possible h = rw h refl
+
+-- an item that is not refused with 13 is read
+pub item-possible : (t : ℕ) (its : List Item) (reply : List ℕ) (index : ℕ) → index < length its → isThirteen (itemOf t its reply index) ≡ false → (q : Quantity) × (itemOf t its reply index ≡ Reading q)
+item-possible t its reply index below h = by (thirteen it value) refl
+  where
+    it : Item
+    it = getD its index none
+
+    value : ℕ
+    value = valueAt (it .words) reply (placeOf its index)
+
+    is : itemOf t its reply index ≡ readingOf t it value
+    is = item-reads t its reply index below
+
+    by : (b : Bool) → thirteen it value ≡ b → (q : Quantity) × (itemOf t its reply index ≡ Reading q)
+    by true e = absurd (false≢true (sym h ∙ ap isThirteen (is ∙ impossible t it value e)))
+    by false e = (_, is ∙ possible t it value e)
 
 module _ (v : View) (good : T (passes v)) where
   -- ---- request and reply: each row and rule leads to its judgement

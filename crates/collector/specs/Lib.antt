@@ -1,2 +1,3 @@
 pub mod Collector
 pub mod When
+pub mod Whole

@@ -9,11 +9,14 @@ ghost use Rattle.directory.specs.Order.{every, shaped, meant};
 ghost use Rattle.directory.specs.Run.{wordsOf};
 ghost use Rattle.directory.specs.Views.{viewOf, Lent};
 ghost use Rattle.collector.specs.Collector.{heard, errorOf, replyOf, judgedIn, placeOf, itemOf, collectorIn, collectorOf};
+
+mod whole;
+
 use directory::Reach;
 use directory::Span;
 use own::table;
 
-// All that a collector's program needs is here: `read`, the joins, and the types of what they take and give.
+// All that a collector's program needs is here: `read`, `read_whole`, the joins, and the types of what they take and give.
 pub use counts::Count;
 pub use counts::Joined;
 pub use counts::WattHours;
@@ -25,6 +28,8 @@ pub use reading::Quantity;
 pub use refusal::ErrorCode;
 pub use refusal::Refusal;
 pub use signed::Signed;
+pub use whole::Whole;
+pub use whole::read_whole;
 
 // The function of an error reply to a read.
 const READ_ERROR: u8 = modbus::READ_HOLDING_REGISTERS + modbus::ERROR_FLAG;

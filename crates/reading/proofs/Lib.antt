@@ -1,3 +1,4 @@
 pub mod ByKind
 pub mod Told
 pub mod Wide
+pub mod Cells

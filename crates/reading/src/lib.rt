@@ -10,6 +10,8 @@ ghost use Rattle.ratio.specs.Ratios.{ktaOk, ktvOk};
 ghost use Rattle.directory.specs.Order.{shaped, meant};
 ghost use Rattle.reading.specs.declared.Quantity.the-variants.{Factor, Kta, Ktv};
 ghost use Rattle.reading.specs.declared.Answer.the-variants.{Reading, Refused};
+ghost use Rattle.reading.specs.Told.{kindOf};
+ghost use Rattle.reading.specs.Cells.{cellOf};
 ghost use Rattle.reading.specs.Readings.{signedIn, times, unitOf, counted, readingOf};
 use counts::Count;
 use counts::WattHours;
@@ -58,6 +60,56 @@ pub enum Quantity {
     Sequence(u16),
     // A word as it stands: an identifier, a zero, minutes or a setup word.
     Plain(u16),
+}
+
+impl Quantity {
+    // The number of its kind: its place in paper 01's list, from 1.
+    pub fn kind(self) -> u8
+        ensures { λ r. ⌜ r ≡ kindOf self ⌝ }
+    {
+        match self {
+            Quantity::Voltage(_) => 1,
+            Quantity::Current(_) => 2,
+            Quantity::Power(_) => 3,
+            Quantity::SignedPower(_) => 4,
+            Quantity::Energy { .. } => 5,
+            Quantity::Low(_) => 6,
+            Quantity::High(_) => 7,
+            Quantity::Wrap(_) => 8,
+            Quantity::Factor(_) => 9,
+            Quantity::Sign(_) => 10,
+            Quantity::Sector(_) => 11,
+            Quantity::Frequency(_) => 12,
+            Quantity::Kta(_) => 13,
+            Quantity::Ktv(_) => 14,
+            Quantity::Sequence(_) => 15,
+            Quantity::Plain(_) => 16,
+        }
+    }
+
+    // Its value in 64 bits: a signed one as two's complement, an energy as the count that its register shows.
+    pub fn cell(self) -> u64
+        ensures { λ r. ⌜ r ≡ cellOf self ⌝ }
+    {
+        match self {
+            Quantity::Voltage(mv) => mv as u64,
+            Quantity::Current(ma) => ma as u64,
+            Quantity::Power(hundredths) => hundredths,
+            Quantity::SignedPower(s) => words::twos_quad(s.negative, s.magnitude),
+            Quantity::Energy { count, .. } => count.0 as u64,
+            Quantity::Low(n) => n as u64,
+            Quantity::High(n) => n as u64,
+            Quantity::Wrap(n) => n as u64,
+            Quantity::Factor(s) => words::twos_quad(s.negative, s.magnitude),
+            Quantity::Sign(n) => n as u64,
+            Quantity::Sector(n) => n as u64,
+            Quantity::Frequency(n) => n as u64,
+            Quantity::Kta(n) => n as u64,
+            Quantity::Ktv(n) => n as u64,
+            Quantity::Sequence(n) => n as u64,
+            Quantity::Plain(n) => n as u64,
+        }
+    }
 }
 
 // What a collector makes of a reply: a reading, the meter's error code, or a refusal.

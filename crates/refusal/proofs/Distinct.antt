@@ -4,13 +4,13 @@ use mathlib.Core.List.{List, [], _∷_}
 use Prim.Native.Nat.{ℕ, _-_}
 use lib.ListN.{getD}
 use Rattle.refusal.specs.declared.Refusal.{Refusal}
-use Rattle.refusal.specs.declared.Refusal.the-variants.{MeterOutOfLimits, BufferShort, RatioOutOfLimits, OwnAddressZero, SampleOutOfLimits, EnergyPastTop, NotARead, ReplyLength, ReplyCrc, ReplyForeign, ReplyMisfit, IndexPastItems, ValueImpossible, JoinPastTop}
+use Rattle.refusal.specs.declared.Refusal.the-variants.{MeterOutOfLimits, BufferShort, RatioOutOfLimits, OwnAddressZero, SampleOutOfLimits, EnergyPastTop, NotARead, ReplyLength, ReplyCrc, ReplyForeign, ReplyMisfit, IndexPastItems, ValueImpossible, JoinPastTop, RowShort}
 use Rattle.refusal.specs.declared.ErrorCode.{ErrorCode}
 use Rattle.refusal.specs.declared.ErrorCode.the-variants.{Function, Address, Data}
 use Rattle.refusal.specs.Numbers.{refusalNumber, errorNumber, OneReasonEach}
 
 abbrev reasonOf : ℕ → Refusal
-reasonOf n = getD (MeterOutOfLimits ∷ BufferShort ∷ RatioOutOfLimits ∷ OwnAddressZero ∷ SampleOutOfLimits ∷ EnergyPastTop ∷ NotARead ∷ ReplyLength ∷ ReplyCrc ∷ ReplyForeign ∷ ReplyMisfit ∷ IndexPastItems ∷ ValueImpossible ∷ JoinPastTop ∷ []) (n - 1) MeterOutOfLimits
+reasonOf n = getD (MeterOutOfLimits ∷ BufferShort ∷ RatioOutOfLimits ∷ OwnAddressZero ∷ SampleOutOfLimits ∷ EnergyPastTop ∷ NotARead ∷ ReplyLength ∷ ReplyCrc ∷ ReplyForeign ∷ ReplyMisfit ∷ IndexPastItems ∷ ValueImpossible ∷ JoinPastTop ∷ RowShort ∷ []) (n - 1) MeterOutOfLimits
 
 reason-back : (a : Refusal) → reasonOf (refusalNumber a) ≡ a
 reason-back MeterOutOfLimits = refl
@@ -27,6 +27,7 @@ reason-back ReplyMisfit = refl
 reason-back IndexPastItems = refl
 reason-back ValueImpossible = refl
 reason-back JoinPastTop = refl
+reason-back RowShort = refl
 
 abbrev codeOf : ℕ → ErrorCode
 codeOf n = getD (Function ∷ Address ∷ Data ∷ []) (n - 1) Function

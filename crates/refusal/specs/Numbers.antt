@@ -1,9 +1,9 @@
--- Paper 01, "Refusal numbers", row by row, and the error codes of documents 000, 001, 003 and 004 ("Error codes").
+-- Paper 01, "Refusal numbers", row by row, paper 02's number behind them (request 4), and the error codes of documents 000, 001, 003 and 004 ("Error codes").
 use mathlib.Core.Path.{_≡_}
 use Prim.Native.Nat.{ℕ}
 use mathlib.Core.List.{List, [], _∷_}
 use Rattle.refusal.specs.declared.Refusal.{Refusal}
-use Rattle.refusal.specs.declared.Refusal.the-variants.{MeterOutOfLimits, BufferShort, RatioOutOfLimits, OwnAddressZero, SampleOutOfLimits, EnergyPastTop, NotARead, ReplyLength, ReplyCrc, ReplyForeign, ReplyMisfit, IndexPastItems, ValueImpossible, JoinPastTop}
+use Rattle.refusal.specs.declared.Refusal.the-variants.{MeterOutOfLimits, BufferShort, RatioOutOfLimits, OwnAddressZero, SampleOutOfLimits, EnergyPastTop, NotARead, ReplyLength, ReplyCrc, ReplyForeign, ReplyMisfit, IndexPastItems, ValueImpossible, JoinPastTop, RowShort}
 use Rattle.refusal.specs.declared.ErrorCode.{ErrorCode}
 use Rattle.refusal.specs.declared.ErrorCode.the-variants.{Function, Address, Data}
 
@@ -23,6 +23,7 @@ refusalNumber ReplyMisfit = 11
 refusalNumber IndexPastItems = 12
 refusalNumber ValueImpossible = 13
 refusalNumber JoinPastTop = 14
+refusalNumber RowShort = 15
 
 -- 0x01: incorrect functional code; 0x02: wrong first WORD address; 0x03: incorrect data
 abbrev pub errorNumber : ErrorCode → ℕ

@@ -3,7 +3,7 @@
 ghost use mathlib.Core.Path.{_≡_};
 ghost use Rattle.refusal.specs.Numbers.{refusalNumber, errorNumber};
 
-// The rows of the refusal table, in its order.
+// The rows of the refusal table, in its order, then those of paper 02.
 pub enum Refusal {
     MeterOutOfLimits,
     BufferShort,
@@ -19,6 +19,7 @@ pub enum Refusal {
     IndexPastItems,
     ValueImpossible,
     JoinPastTop,
+    RowShort,
 }
 
 impl Refusal {
@@ -41,6 +42,7 @@ impl Refusal {
             Refusal::IndexPastItems => 12,
             Refusal::ValueImpossible => 13,
             Refusal::JoinPastTop => 14,
+            Refusal::RowShort => 15,
         }
     }
 }

@@ -47,7 +47,7 @@ fn number_at(numbers: &[u64], i: usize) {
     }
 }
 
-// The rows of paper 01's refusal table, shortened.
+// The rows of paper 01's refusal table and paper 02's, shortened.
 pub fn refused(reason: Refusal) {
     numbered(
         b"refused ",
@@ -66,7 +66,8 @@ pub fn refused(reason: Refusal) {
         reply does not fit the request\n\
         index past the items\n\
         value impossible\n\
-        count, Low or High over its top\n",
+        count, Low or High over its top\n\
+        row shorter than the items\n",
     );
 }
 

@@ -84,3 +84,10 @@ pub fn twos_long(negative: bool, magnitude: u32) -> u32
 {
     complement(4_294_967_295, negative, magnitude as u64) as u32
 }
+
+// A signed number in 64 bits, as many as four words have, as two's complement.
+pub fn twos_quad(negative: bool, magnitude: u64) -> u64
+    ensures { λ r. ⌜ r ≡ twos 4 negative magnitude ⌝ }
+{
+    complement(18_446_744_073_709_551_615, negative, magnitude)
+}

@@ -14,7 +14,7 @@ use Rattle.directory.proofs.Order.{Narrow, every-at}
 use Rattle.reading.specs.Readings.{readingOf}
 use Rattle.collector.specs.Collector.{placeOf}
 use Rattle.words.proofs.Laws.{value-fits}
-use Rattle.collector.proofs.Places.{words-within, narrow-at, item-past, item-reads}
+use Rattle.collector.proofs.Places.{Known, known, item-past, item-reads}
 use borrow.Author.Needs.{needs}
 use Rattle.collector.proofs.item.Statement.{statement}
 use Rattle.collector.proofs.item.Tie as tie
@@ -30,29 +30,13 @@ returns c =
 below : (e : tie.Else1) → e .before .before .before .args .index < length (its (e .before .before .before))
 below e = omega (arith, items-length (e .before .before .before .args .asked .now))
 
--- what is known of the item when it is found
-record Known (its : List Item) (reply : List ℕ) (index at : ℕ) (it : Item) : Type 0 where
-  pub is : it ≡ getD its index none
-  pub shapely : shaped it ≡ true
-  pub means : meant it ≡ true
-  pub narrow : Narrow it
-  pub room : at + 2 * it .words ≤ length reply
-
 abbrev start : tie.After-item-at → tie.Start
 start r = r .before .before .before .before .before
 
-known : (r : tie.After-item-at) → Known (its (start r)) (start r .args .reply .now) (start r .args .index) (r .before .place .result) (r .item-at .result)
-known r =
+found : (r : tie.After-item-at) → Known (its (start r)) (start r .args .reply .now) (start r .args .index) (r .before .place .result) (r .item-at .result)
+found r =
     let s = start r in
-    let inside = below (r .before .before) in
-    let is = r .item-at .ensures in
-    record {
-      is = is;
-      shapely = rw is (every-at shaped (its s) (s .pre .0 .0) (s .args .index) inside);
-      means = rw is (every-at meant (its s) (s .pre .0 .1) (s .args .index) inside);
-      narrow = rw is (narrow-at (its s) (s .pre .0 .0) (s .args .index) inside);
-      room = omega (arith, r .before .place .ensures, ap (λ (it : Item). it .words) is, words-within (its s) (s .args .index) inside, s .pre .1);
-    }
+    known (its s) (s .args .reply .now) (s .pre .0) (s .pre .1) (s .args .index) _ _ (below (r .before .before)) (r .before .place .ensures) (r .item-at .ensures)
 
 place-requires : tie.Need-place-requires
 place-requires c κs = (c .before .before .before .pre .0 .0, omega (arith, below c))
@@ -66,12 +50,12 @@ cast-value-at : tie.Need-cast-value-at
 cast-value-at c = search needs
 
 value-at-requires : tie.Need-value-at-requires
-value-at-requires c κs = let k = known (c .before) in (k .room, (k .narrow .some, k .narrow .few))
+value-at-requires c κs = let k = found (c .before) in (k .room, (k .narrow .some, k .narrow .few))
 
 of-requires : tie.Need-of-requires
 of-requires c κs =
     let r = c .before .before in
-    let k = known r in
+    let k = found r in
     let bytes = r .before .before .before .shared-slice-known2 .given in
     ((k .shapely, k .means), rw (c .value-at .ensures) (value-fits (start r .args .reply .now) (λ i. omega (arith, bytes i)) (r .item-at .result .words) (r .before .place .result)))
 
