@@ -11,12 +11,14 @@ fn main() {
     let mut buf = [0u8; 256];
     let n = io::read_full(STDIN_FILENO, &mut buf);
     hex(frames::answered(&buf[..n]) as u64);
-    hex(readings::collected(&buf[..n]));
+    hex(readings::collected(&buf[..n], false));
+    hex(readings::collected(&buf[..n], true));
     hex(bytes::sealed(&mut buf, n) as u64);
     hex(bytes::hosted(&mut buf, n) as u64);
     say::number(figures::counted());
     say::end();
     hex(once::each());
+    hex(once::whole());
 }
 
 // A line with a number in hexadecimal.

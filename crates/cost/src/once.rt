@@ -14,3 +14,10 @@ pub fn each() -> u64 {
     let said = readings::value(collector::read(&frame, &frame, ratios, 0));
     said ^ host ^ answered.meter.counters.active.positive.wh.0
 }
+
+pub fn whole() -> u64 {
+    let mut values = [0u64; 1];
+    let mut kinds = [0u8; 1];
+    let ratios = Ratios { kta: 1, ktv: 10 };
+    readings::items(collector::read_whole(b"", b"", ratios, &mut values, &mut kinds))
+}

@@ -1,18 +1,21 @@
-// A collector that reads the items of a meter's reply to the frame on standard input, one by one, again and again.
+// A collector that reads the items of a meter's reply to the frame on standard input, one by one or by one call, again and again.
 use board::Reply;
 use collector::Answer;
 use collector::Quantity;
+use collector::Whole;
 use meter::Meter;
 use ratio::Ratios;
 
 const READ_TURNS: u32 = 1000;
+
+const WHOLE_TURNS: u32 = 1000;
 
 // The items of one turn: the index of the first, and how many.
 const READ_FROM: usize = 0;
 
 const READ_ITEMS: usize = 28;
 
-pub fn collected(request: &[u8]) -> u64 {
+pub fn collected(request: &[u8], whole: bool) -> u64 {
     let ratios = Ratios { kta: 1, ktv: 10 };
     let new = Meter::new(1, ratios);
     let mut buffer = [0u8; 256];
@@ -21,7 +24,32 @@ pub fn collected(request: &[u8]) -> u64 {
     let Reply::Sent(n) = did else {
         return 0;
     };
-    again(request, &buffer[..n], ratios)
+    let reply = &buffer[..n];
+    if whole {
+        return wholly(request, reply, ratios);
+    }
+    again(request, reply, ratios)
+}
+
+fn wholly(request: &[u8], reply: &[u8], ratios: Ratios) -> u64 {
+    let mut values = [0u64; 64];
+    let mut kinds = [0u8; 64];
+    let mut sum: u64 = 0;
+    let mut k: u32 = 0;
+    while k < WHOLE_TURNS {
+        let whole = collector::read_whole(request, reply, ratios, &mut values, &mut kinds);
+        sum = sum | items(whole);
+        k += 1;
+    }
+    sum | values[1]
+}
+
+pub fn items(whole: Whole) -> u64 {
+    match whole {
+        Whole::Items(n) => n as u64,
+        Whole::Error(code) => code.number() as u64,
+        Whole::Refused(reason) => reason.number() as u64,
+    }
 }
 
 fn again(request: &[u8], reply: &[u8], ratios: Ratios) -> u64 {

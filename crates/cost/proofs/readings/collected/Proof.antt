@@ -31,14 +31,20 @@ returns c = search needs
 array-share-prefix-buffer : tie.Need-array-share-prefix-buffer
 array-share-prefix-buffer c = omega (arith, sent (c .before))
 
-slice-aggregate-again : tie.Need-slice-aggregate-again
-slice-aggregate-again c = sym (length-take-le _ _ (omega (arith, sent (c .before .before))))
+slice-aggregate-reply : tie.Need-slice-aggregate-reply
+slice-aggregate-reply c = sym (length-take-le _ _ (omega (arith, sent (c .before .before))))
+
+wholly-requires : tie.Need-wholly-requires
+wholly-requires c κs = search needs
+
+returns-2 : tie.Need-returns-2
+returns-2 c = search needs
 
 again-requires : tie.Need-again-requires
 again-requires c κs = search needs
 
-returns-2 : tie.Need-returns-2
-returns-2 c = search needs
+returns-3 : tie.Need-returns-3
+returns-3 c = search needs
 
 pub collected-spec : {M : Type 1} → statement M
 collected-spec =
@@ -50,6 +56,8 @@ collected-spec =
     enum-known-did
     returns
     array-share-prefix-buffer
-    slice-aggregate-again
+    slice-aggregate-reply
+    wholly-requires
+    returns-2
     again-requires
-    returns-2)
+    returns-3)
