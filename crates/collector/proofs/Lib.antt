@@ -5,4 +5,5 @@ pub mod Parts
 pub mod When
 pub mod Turns
 pub mod Rows
+pub mod OneByOne
 pub mod Joins

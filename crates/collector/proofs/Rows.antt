@@ -1,5 +1,5 @@
 -- The rows of the whole call: what each of its tests leads to, and that of data it is filled from the items in turn.
-use mathlib.Core.Path.{_≡_, refl, sym, ap, ap₂, subst, _∙_}
+use mathlib.Core.Path.{_≡_, refl, sym, ap, subst, _∙_}
 use mathlib.Core.Bool.{Bool, true, false, _||_}
 use mathlib.Core.List.{List, [], _∷_, map}
 use Prim.Native.Nat.{ℕ, suc, _+_, _≤_, _<_}
@@ -27,7 +27,7 @@ use Rattle.collector.specs.declared.whole.Whole.the-variants.{Items, Err
 use Rattle.collector.specs.Collector.{judgedIn, itemOf, onData, collectorIn}
 use Rattle.collector.specs.Whole.{inTurn, anyThirteen, readingsIn, Rows, keptBy, filledBy, onReply, wholeIn, Filled}
 use Rattle.collector.proofs.Places.{narrow-at, run-length}
-use Rattle.collector.proofs.Turns.{turns-length, turns-same}
+use Rattle.collector.proofs.Turns.{turns-same}
 
 -- ---- the tests
 

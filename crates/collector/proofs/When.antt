@@ -36,6 +36,7 @@ use Rattle.reading.specs.declared.Answer.the-variants.{Reading, Error, Refused}
 use Rattle.reading.specs.Told.{told}
 use Rattle.reading.specs.Readings.{thirteen, quantitiesOf, readingOf}
 use Rattle.reading.proofs.Told.{one-answer-each}
+use Rattle.reading.proofs.Cells.{quantityIn}
 use Rattle.collector.specs.declared.Judgement.{Judgement}
 use Rattle.collector.specs.declared.Judgement.the-variants as judgement
 use Rattle.collector.specs.Collector.{heard, lengthWrong, isReadError, foreign, thirdOf, codeOf, errorOf, misfit, replyOf, judgedIn, placeOf, itemOf, onData, collectorIn}
@@ -108,11 +109,30 @@ module _ (v : View) (good : T (passes v)) where
     -- 3 and 7 to 11
     pub data Row : Refusal → Type 0 where
       row-3 : ratiosOk r ≡ false → Row RatioOutOfLimits
-      row-7 : ratiosOk r ≡ true → (Asks v request → ⊥) → Row NotARead
+      row-7 : (ratiosOk r ≡ true) × (Asks v request → ⊥) → Row NotARead
       row-8 : Asked v request r × (lengthWrong reply ≡ true) → Row ReplyLength
       row-9 : Asked v request r × (lengthWrong reply ≡ false) × (intact reply ≡ false) → Row ReplyCrc
       row-10 : ForeignReply v request reply r → Row ReplyForeign
       row-11 : Misfits v request reply r → Row ReplyMisfit
+
+    -- what each says
+    pub three : Row RatioOutOfLimits → ratiosOk r ≡ false
+    three (row-3 h) = h
+
+    pub seven : Row NotARead → (ratiosOk r ≡ true) × (Asks v request → ⊥)
+    seven (row-7 h) = h
+
+    pub eight : Row ReplyLength → Asked v request r × (lengthWrong reply ≡ true)
+    eight (row-8 h) = h
+
+    pub nine : Row ReplyCrc → Asked v request r × (lengthWrong reply ≡ false) × (intact reply ≡ false)
+    nine (row-9 h) = h
+
+    pub ten : Row ReplyForeign → ForeignReply v request reply r
+    ten (row-10 h) = h
+
+    pub eleven : Row ReplyMisfit → Misfits v request reply r
+    eleven (row-11 h) = h
 
     to-reply : (a : Asked v request r) → judged ≡ replyOf request reply (judgement.Items (a .asks .first) (a .asks .count))
     unfolding judgedIn
@@ -133,7 +153,7 @@ module _ (v : View) (good : T (passes v)) where
 
     pub refused : {reason : Refusal} → Row reason → judged ≡ judgement.Refused reason
     refused (row-3 h) = ratio-row h
-    refused (row-7 ok other) = request-row ok other
+    refused (row-7 h) = request-row (h .0) (h .1)
     refused (row-8 h) = to-reply (h .0) ∙ sym (length-refused _ _ _ (h .1))
     refused (row-9 h) = to-reply (h .0) ∙ sym (crc-refused _ _ _ (h .1) (h .2))
     refused (row-10 h) = to-reply (h .0) ∙ sym (foreign-refused _ _ _ (h .1) (h .2) (h .3))
@@ -205,16 +225,11 @@ module _ (v : View) (good : T (passes v)) where
       where
         by : (o h : Bool) (s : Span) → ratiosOk r ≡ o → heard request ≡ h → readIn v request ≡ s → Judging
         by false h s x y z = refuses RatioOutOfLimits (row-3 x)
-        by true false s x y z = refuses NotARead (row-7 x (λ asks. false≢true (sym y ∙ asks .hears)))
-        by true true (span.Error code) x y z = refuses NotARead (row-7 x (λ asks. no-run code z (asks .items)))
+        by true false s x y z = refuses NotARead (row-7 (x, λ asks. false≢true (sym y ∙ asks .hears)))
+        by true true (span.Error code) x y z = refuses NotARead (row-7 (x, λ asks. no-run code z (asks .items)))
         by true true (span.Items first count) x y z = at-reply (record { ratios = x; asks = record { hears = y; first = first; count = count; items = z } })
 
   -- ---- an item of it
-
-  abbrev quantityIn : Quantity → Answer → Quantity
-  quantityIn d (Reading q) = q
-  quantityIn d (Error code) = d
-  quantityIn d (Refused reason) = d
 
   module _ (request reply : List ℕ) (r : Ratios) (index : ℕ) where
     abbrev given : Answer
@@ -228,7 +243,7 @@ module _ (v : View) (good : T (passes v)) where
     unfolding collectorIn
     to-judged = refl
 
-    to-reading : (h : Holds v request reply r index) → given ≡ readingOf (tOf r) (itemAt v (h .fits .sound .asked .asks) index) (valueIn v (h .fits .sound .asked .asks) reply index)
+    pub to-reading : (h : Holds v request reply r index) → given ≡ readingOf (tOf r) (itemAt v (h .fits .sound .asked .asks) index) (valueIn v (h .fits .sound .asked .asks) reply index)
     to-reading h =
         let a = h .fits .sound .asked .asks in
         let its = runItems (v .seen) (a .first) (a .count) in
@@ -238,19 +253,19 @@ module _ (v : View) (good : T (passes v)) where
         ∙ ap (λ (it : Item). readingOf (tOf r) it (valueAt (it .words) reply (placeOf its index))) (run-at (v .seen) (a .first) (a .count) index (h .below))
 
     -- the rows of an item's call
-    data Refuses : Refusal → Type 0 where
+    pub data Refuses : Refusal → Type 0 where
       by-row : {reason : Refusal} → Row request reply r reason → Refuses reason
       row-12 : Past v request reply r index → Refuses IndexPastItems
       row-13 : Impossible v request reply r index → Refuses ValueImpossible
 
-    item-refused : {reason : Refusal} → Refuses reason → given ≡ Refused reason
+    pub item-refused : {reason : Refusal} → Refuses reason → given ≡ Refused reason
     item-refused (by-row w) = to-judged ∙ ap on (refused request reply r w)
     item-refused (row-12 h) =
         let a = h .fits .sound .asked .asks in
         to-judged ∙ ap on (held request reply r (h .fits)) ∙ sym (item-past _ _ _ _ (omega (arith, h .past, run-length (v .seen) (a .first) (a .count) (legal-read v good (a .items) .inside))))
     item-refused (row-13 h) = to-reading (h .holds) ∙ impossible _ _ _ (h .value)
 
-    item-coded : (code : ErrorCode) → GivesCode v request reply r (errorNumber code) → given ≡ Error code
+    pub item-coded : (code : ErrorCode) → GivesCode v request reply r (errorNumber code) → given ≡ Error code
     item-coded code h = to-judged ∙ ap on (coded request reply r code h)
 
     pub item-read : (q : Quantity) → Reads v request reply r index q → given ≡ Reading q
@@ -258,7 +273,7 @@ module _ (v : View) (good : T (passes v)) where
 
     -- ---- every call comes to one of them
 
-    data Outcome : Type 0 where
+    pub data Outcome : Type 0 where
       refused-as : (reason : Refusal) → Refuses reason → Outcome
       error-as : (code : ErrorCode) → GivesCode v request reply r (errorNumber code) → Outcome
       tells : (q : Quantity) → Reads v request reply r index q → Outcome
@@ -285,7 +300,7 @@ module _ (v : View) (good : T (passes v)) where
         by true e = at-item (record { fits = f; below = ltb-true index n e })
         by false e = refused-as IndexPastItems (row-12 (record { fits = f; past = ltb-false index n e }))
 
-    outcome : Outcome
+    pub outcome : Outcome
     outcome = by (judging request reply r)
       where
         by : Judging request reply r → Outcome
@@ -311,24 +326,14 @@ module _ (v : View) (good : T (passes v)) where
     by-number : (reason : Refusal) {Says : Type 0} → (Refuses reason → Says) → (Says → Refuses reason) → ReplyGives v request reply r index (refusedBy (refusalNumber reason)) ↔ Says
     by-number reason to from = (λ h. to (only-row reason (one-answer-each .answers given (Refused reason) h) outcome), λ w. refuses-told (from w))
 
-    -- what each row says
-    three : Refuses RatioOutOfLimits → ratiosOk r ≡ false
-    three (by-row (row-3 h)) = h
+    -- of those below 12, a row of the reply's
+    of-reply : {reason : Refusal} → Refuses reason → refusalNumber reason < 12 → Row request reply r reason
+    of-reply (by-row w) h = w
+    of-reply (row-12 w) h = absurd (omega (arith, h))
+    of-reply (row-13 w) h = absurd (omega (arith, h))
 
-    seven : Refuses NotARead → (ratiosOk r ≡ true) × (Asks v request → ⊥)
-    seven (by-row (row-7 ok other)) = (ok, other)
-
-    eight : Refuses ReplyLength → Asked v request r × (lengthWrong reply ≡ true)
-    eight (by-row (row-8 h)) = h
-
-    nine : Refuses ReplyCrc → Asked v request r × (lengthWrong reply ≡ false) × (intact reply ≡ false)
-    nine (by-row (row-9 h)) = h
-
-    ten : Refuses ReplyForeign → ForeignReply v request reply r
-    ten (by-row (row-10 h)) = h
-
-    eleven : Refuses ReplyMisfit → Misfits v request reply r
-    eleven (by-row (row-11 h)) = h
+    by-reply : (reason : Refusal) → refusalNumber reason < 12 → {Says : Type 0} → (Row request reply r reason → Says) → (Says → Row request reply r reason) → ReplyGives v request reply r index (refusedBy (refusalNumber reason)) ↔ Says
+    by-reply reason small to from = by-number reason (λ w. to (of-reply w small)) (λ s. by-row (from s))
 
     twelve : Refuses IndexPastItems → Past v request reply r index
     twelve (row-12 h) = h
@@ -339,7 +344,7 @@ module _ (v : View) (good : T (passes v)) where
     -- the numbers of the rows
     numbered : {reason : Refusal} → Refuses reason → (refusalNumber reason ≡ 3) ⊎ ((7 ≤ refusalNumber reason) × (refusalNumber reason ≤ 13))
     numbered (by-row (row-3 h)) = inl refl
-    numbered (by-row (row-7 ok other)) = inr (omega arith, omega arith)
+    numbered (by-row (row-7 h)) = inr (omega arith, omega arith)
     numbered (by-row (row-8 h)) = inr (omega arith, omega arith)
     numbered (by-row (row-9 h)) = inr (omega arith, omega arith)
     numbered (by-row (row-10 h)) = inr (omega arith, omega arith)
@@ -372,12 +377,12 @@ module _ (v : View) (good : T (passes v)) where
 
     pub replies-when : RepliesWhen v request reply r index
     replies-when = record {
-      row-3 = by-number RatioOutOfLimits three (λ h. by-row (row-3 h));
-      row-7 = by-number NotARead seven (λ h. by-row (row-7 (h .0) (h .1)));
-      row-8 = by-number ReplyLength eight (λ h. by-row (row-8 h));
-      row-9 = by-number ReplyCrc nine (λ h. by-row (row-9 h));
-      row-10 = by-number ReplyForeign ten (λ h. by-row (row-10 h));
-      row-11 = by-number ReplyMisfit eleven (λ h. by-row (row-11 h));
+      row-3 = by-reply RatioOutOfLimits (omega arith) (three request reply r) row-3;
+      row-7 = by-reply NotARead (omega arith) (seven request reply r) row-7;
+      row-8 = by-reply ReplyLength (omega arith) (eight request reply r) row-8;
+      row-9 = by-reply ReplyCrc (omega arith) (nine request reply r) row-9;
+      row-10 = by-reply ReplyForeign (omega arith) (ten request reply r) row-10;
+      row-11 = by-reply ReplyMisfit (omega arith) (eleven request reply r) row-11;
       row-12 = by-number IndexPastItems twelve row-12;
       row-13 = by-number ValueImpossible thirteenth row-13;
       only = λ n h. only n h outcome;

@@ -64,7 +64,8 @@ pub record Back (t : ℕ) (q : Quantity) : Type 0 where
   pub some : 1 ≤ kindOf q
   pub most : kindOf q ≤ 16
 
-abbrev quantityIn : Quantity → Answer → Quantity
+-- the reading in an answer, if it is one
+abbrev pub quantityIn : Quantity → Answer → Quantity
 quantityIn d (Reading q) = q
 quantityIn d (Error code) = d
 quantityIn d (Refused reason) = d

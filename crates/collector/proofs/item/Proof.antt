@@ -1,16 +1,13 @@
 -- The item is the one asked, its place that of the definition, and its words stand in the reply.
-use mathlib.Core.Path.{_≡_, sym, ap, _∙_}
-use mathlib.Core.Bool.{true}
+use mathlib.Core.Path.{sym, ap, _∙_}
 use native.Mathlib.Omega.{arith}
 use mathlib.Core.List.{List}
-use Prim.Native.Nat.{ℕ, _+_, _*_, _≤_, _<_}
-use lib.ListN.{length, getD}
+use Prim.Native.Nat.{_<_}
+use lib.ListN.{length}
 use Rattle.words.specs.Words.{valueAt}
 use Rattle.directory.specs.declared.Item.{Item}
-use Rattle.directory.specs.Item.{items, none}
-use Rattle.directory.specs.Order.{shaped, meant}
+use Rattle.directory.specs.Item.{items}
 use Rattle.directory.proofs.Flat.{items-length}
-use Rattle.directory.proofs.Order.{Narrow, every-at}
 use Rattle.reading.specs.Readings.{readingOf}
 use Rattle.collector.specs.Collector.{placeOf}
 use Rattle.words.proofs.Laws.{value-fits}

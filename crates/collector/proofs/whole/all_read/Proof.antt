@@ -5,9 +5,9 @@ use mathlib.Core.Bool.{Bool, true, false, not, false≢true}
 use native.Mathlib.Omega.{arith}
 use native.Mathlib.Numerals.{add-one}
 use mathlib.Core.List.{List, [], _∷_, _++_, map}
-use Prim.Native.Nat.{ℕ, _+_, _-_, _*_, _≤_, _<_}
-use lib.ListN.{length, getD, take, set}
-use lib.Seq.{sets, length-sets}
+use Prim.Native.Nat.{ℕ, _+_, _-_, _≤_, _<_}
+use lib.ListN.{length}
+use lib.Seq.{sets}
 use denote.Enum.Declared.{tagOf}
 use types.Run.{OneOf}
 use Rattle.refusal.specs.declared.Refusal.the-variants.{ValueImpossible}
@@ -28,7 +28,7 @@ use Rattle.collector.specs.Collector.{placeOf, itemOf}
 use Rattle.collector.specs.Whole.{inTurn, isThirteen}
 use Rattle.collector.proofs.When.{impossible, possible}
 use Rattle.collector.proofs.Places.{words-upto, Known, known, item-reads}
-use Rattle.collector.proofs.Turns.{Read, read-length, read-none, read-all, read-next, any-at, laid-next}
+use Rattle.collector.proofs.Turns.{Read, read-length, read-none, read-all, read-next, any-at, laid-length, laid-next}
 use borrow.Author.Needs.{needs}
 use Rattle.collector.proofs.whole.all_read.Statement.{statement}
 use Rattle.collector.proofs.whole.all_read.Tie as tie
@@ -89,10 +89,6 @@ of-requires c κs =
 
 enum-known-answer : tie.Need-enum-known-answer Inv-loop μ-loop
 enum-known-answer c = search needs
-
--- a row that was laid out is as long as it was
-laid-length : (l r : List ℕ) (vs : List ℕ) → r ≡ sets l 0 vs → length r ≡ length l
-laid-length l r vs h = ap length h ∙ length-sets l 0 vs
 
 same-length : tie.Need-same-length Inv-loop μ-loop
 same-length c =

@@ -1,12 +1,12 @@
 -- The tests are the definition's own; what is laid out in the rows was read from the items in turn.
-use mathlib.Core.Path.{_≡_, refl, sym, ap, ap₂, subst, _∙_}
+use mathlib.Core.Path.{_≡_, sym, ap, ap₂, subst, _∙_}
 use native.Mathlib.Omega.{arith}
-use mathlib.Core.Bool.{Bool, true, false, _||_, not}
+use mathlib.Core.Bool.{true, false, _||_}
 use mathlib.Core.List.{List, map}
 use Prim.Native.Nat.{ℕ, _/_, _≤_}
 use lib.Dec.{ltb}
 use lib.ListN.{length, take, replicate, length-map}
-use lib.Seq.{sets, length-sets}
+use lib.Seq.{sets}
 use borrow.Author.Tests.{not-true, not-false, ltb-false}
 use Rattle.directory.specs.declared.Item.{Item}
 use Rattle.directory.specs.Item.{items}
@@ -18,9 +18,9 @@ use Rattle.reading.specs.Told.{kindOf}
 use Rattle.reading.specs.Cells.{cellOf}
 use Rattle.collector.specs.declared.whole.Whole.the-variants.{Items}
 use Rattle.collector.specs.Collector.{itemOf}
-use Rattle.collector.specs.Whole.{inTurn, anyThirteen, readingsIn, Rows, filledBy, Filled}
+use Rattle.collector.specs.Whole.{inTurn, anyThirteen, readingsIn, Rows}
 use Rattle.collector.proofs.When.{item-possible}
-use Rattle.collector.proofs.Turns.{turns-length, turns-read, read-length, read-all}
+use Rattle.collector.proofs.Turns.{turns-length, turns-read, read-length, read-all, laid-length}
 use Rattle.collector.proofs.Rows.{short, short-kept, refused-kept, all-filled, allowed, few-items}
 use borrow.Author.Needs.{needs}
 use Rattle.collector.proofs.whole.fill.Statement.{statement}
@@ -72,9 +72,6 @@ returns-2 c =
 -- a row that was laid out from its start on has what was laid out
 laid : (l r vs : List ℕ) (n : ℕ) → r ≡ sets l 0 vs → length vs ≡ n → n ≤ length l → take n r ≡ vs
 laid l r vs n h long room = ap₂ take (sym long) h ∙ sets-taken l vs (omega (arith, long, room))
-
-laid-length : (l r vs : List ℕ) → r ≡ sets l 0 vs → length r ≡ length l
-laid-length l r vs h = ap length h ∙ length-sets l 0 vs
 
 -- every item is read
 abbrev start : tie.Else2 → tie.Start

@@ -1,16 +1,15 @@
 -- Request and reply are judged as the definition does; the items that there is data for stand in a part of the table.
-use mathlib.Core.Path.{_≡_, sym, ap, ap₂, subst, _∙_}
+use mathlib.Core.Path.{_≡_, sym, ap, ap₂, _∙_}
 use mathlib.Core.List.{List}
 use Prim.Native.Nat.{ℕ}
 use lib.ListN.{length}
-use Rattle.ratio.specs.Ratios.{tOf}
 use Rattle.directory.specs.declared.Item.{Item}
 use Rattle.directory.specs.Item.{items}
 use Rattle.directory.specs.Views.{View, viewOf}
 use Rattle.collector.specs.declared.Judgement.{Judgement}
 use Rattle.collector.specs.declared.Judgement.the-variants.{Items}
 use Rattle.collector.specs.Collector.{judgedIn, itemOf}
-use Rattle.collector.specs.Whole.{inTurn, Rows, filledBy, wholeIn, Filled}
+use Rattle.collector.specs.Whole.{inTurn, Rows, filledBy}
 use Rattle.collector.proofs.Parts.{DataPart, data-part}
 use Rattle.collector.proofs.Rows.{allowed, allowed-by, whole-coded, whole-refused, whole-items}
 use borrow.Author.Needs.{needs}
