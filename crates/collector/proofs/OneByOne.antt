@@ -158,6 +158,14 @@ module _ (v : View) (good : T (passes v)) (request reply : List ℕ) (r : Ratios
   all-read : (n : ℕ) → AllRead v request reply r values kinds n → Readings n
   all-read n a = subst Readings (a .count) (at-count (a .roomy .fits) (a .roomy .values-room) (a .roomy .kinds-room) (λ i b. a .possible i (omega (arith, b, a .count))))
 
+  -- where each call gives a reading, all are read
+  pub all-given : (f : Fits v request reply r) → count f ≤ length values → count f ≤ length kinds → ((i : ℕ) → i < count f → (q : Quantity) × (ask i ≡ answer.Reading q)) → AllRead v request reply r values kinds (count f)
+  all-given f a b each = record {
+    roomy = record { fits = f; values-room = a; kinds-room = b };
+    count = refl;
+    possible = λ i below. sym (thirteen-at f i below) ∙ ap isThirteen (each i below .1);
+  }
+
   -- ---- every call comes to one of them
 
   data Outcome : Type 0 where

@@ -15,6 +15,7 @@ use Rattle.modbus.proofs.Judged.{read-when, tenant-reads}
 use Rattle.reading.proofs.Told.{one-answer-each}
 use Rattle.collector.proofs.When as collector
 use Rattle.collector.proofs.Joins.{joins-when}
+use Rattle.collector.proofs.OneByOne.{whole-when, one-by-one}
 use Rattle.average.proofs.Limits.{window-lengths, average-limits, limits-bite}
 use Rattle.meter.proofs.Parts.{zero-to-neither}
 use Rattle.meter.proofs.Sums.{sums-carried}
@@ -22,7 +23,7 @@ use Rattle.meter.proofs.Accepts.{new-answers, address-limits, sample-answers, s
 use Rattle.store.proofs.Verdicts.{write-when}
 use Rattle.registers.proofs.Widths.{every-case, setup-unseen}
 use Rattle.transcript.proofs.Written.{text-written}
-use Rattle.demands.specs.Demands.{Demand1, Ground, Replies, Readings, Demand2, Tenants, Demands}
+use Rattle.demands.specs.Demands.{Demand1, Ground, Replies, Readings, Demand2, Tenants, Wholes, Demands}
 use Rattle.demands.proofs.Frames as board
 use Rattle.demands.proofs.Polls.{with-data, round-trip}
 use Rattle.demands.proofs.Polled.{every-item-polled}
@@ -30,6 +31,7 @@ use Rattle.demands.proofs.Histories.{after-events, setup-idle-always}
 use Rattle.demands.proofs.Types.{types-kept}
 use Rattle.demands.proofs.NotEmpty.{not-empty, reads-always}
 use Rattle.demands.proofs.Demand3.{demand-3}
+use Rattle.demands.proofs.Wholes.{whole-always, whole-demand-3}
 use Rattle.demands.proofs.LastRows.{last-rows, last-ratios}
 use Rattle.demands.proofs.Tenant.{second-is-named, at-second, tenant-asks, alters-nothing, answers-alike, unlike-but-alike, tenant-learns, counts-alone}
 use Rattle.demands.proofs.Fills.{averages-always}
@@ -122,5 +124,8 @@ tenants = record {
   counts = counts-alone;
 }
 
+pub wholes : Wholes
+wholes = record { when = whole-when; one-by-one = one-by-one; always = whole-always; energies = whole-demand-3 }
+
 pub demands : Demands
-demands = record { one = demand-1; two = demand-2; three = demand-3; polled = every-item-polled; not-empty = not-empty; tight = shut-out; tenants = tenants }
+demands = record { one = demand-1; two = demand-2; three = demand-3; polled = every-item-polled; not-empty = not-empty; tight = shut-out; tenants = tenants; wholes = wholes }

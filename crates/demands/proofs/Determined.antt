@@ -3,6 +3,7 @@ use mathlib.Core.Path.{sym, _∙_}
 use Rattle.counts.proofs.Joins.{join-back}
 use Rattle.meter.proofs.Outcomes.{answer-back}
 use Rattle.store.proofs.Verdicts.{verdict-back}
+use Rattle.collector.proofs.OneByOne.{one-whole-each}
 use Rattle.demands.proofs.Frames.{reply-back}
 use Rattle.demands.specs.Determined.{Determined, Numbered}
 
@@ -13,7 +14,8 @@ determined = record {
   line = λ line before x y p q h k. (h .told ∙ sym (k .told), h .bytes ∙ sym (k .bytes));
   text = λ frame before x y p q h k. (h .told ∙ sym (k .told), h .bytes ∙ sym (k .bytes));
   transcript = λ input before x y p q h k. (h .told ∙ sym (k .told), h .bytes ∙ sym (k .bytes));
+  whole = λ request reply r values kinds x y p q i j h k. (h .answers ∙ sym (k .answers), h .cells ∙ sym (k .cells), h .numbers ∙ sym (k .numbers));
 }
 
 pub numbered : Numbered
-numbered = record { answers = answer-back; verdicts = verdict-back; replies = reply-back; joins = join-back }
+numbered = record { answers = answer-back; verdicts = verdict-back; replies = reply-back; joins = join-back; wholes = one-whole-each }

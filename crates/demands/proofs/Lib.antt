@@ -9,6 +9,7 @@ pub mod Histories
 pub mod Types
 pub mod NotEmpty
 pub mod Demand3
+pub mod Wholes
 pub mod LastRows
 pub mod Tenant
 pub mod Averages

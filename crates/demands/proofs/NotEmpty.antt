@@ -20,7 +20,8 @@ use Rattle.meter.specs.declared.Answer.the-variants.{Accepted}
 use Rattle.meter.specs.declared.given.Given.{Given}
 use Rattle.meter.specs.declared.Meter.{Meter}
 use Rattle.meter.specs.Samples.{noSample}
-use Rattle.meter.specs.Meters.{newOf}
+use Rattle.meter.specs.Meters.{meterOk, newOf}
+use Rattle.registers.specs.Typed.{Typed}
 use Rattle.meter.proofs.Accepts.{made-within, new-blank, new-answers}
 use Rattle.registers.proofs.Widths.{Shows, typed-shows}
 use Rattle.board.specs.Board.{toSecond, viewFor}
@@ -93,18 +94,33 @@ module _ (v : View) (good : T (passes v)) where
 
   -- ---- the round trip over histories
 
-  polls : (g : Given) (xs : List Event) → newOf g .answer ≡ Accepted → AllTyped xs → (q : ℕ) (p : Poll v g q) → collected v (g .ratios) (afterAll v (newOf g .meter) xs) p ≡ Reading (meaningOf (afterAll v (newOf g .meter) xs) q)
-  polls g xs made typed q p =
-      let first = newOf g .meter in
-      let m = afterAll v first xs in
-      let same : m .given ≡ g = after-events v good .given first xs ∙ ap (λ (x : Meter). x .given) (new-blank g) in
-      let within = after-events v good .within first xs (made-within g made) in
+  -- a meter within limits, as a program holds it
+  pub typed-poll : (g : Given) (m : Meter) → meterOk m ≡ true → m .given ≡ g → Typed m → (q : ℕ) (p : Poll v g q) → collected v (g .ratios) m p ≡ Reading (meaningOf m q)
+  typed-poll g m within same typed q p =
       let tenant = toSecond g (p .request) in
       let its = asked-whole v good tenant (p .asks) in
       let here = whole v good tenant (p .request) (p .asks .first) (p .asks .count) (p .asks .items) .item (p .index) (p .below) in
       let known : p .asks .first + p .index < length (v .seen) = omega (arith, p .below, legal-read v good (its .items) .inside) in
-      let shows = typed-shows (v .seen) (passes-tested v good) (p .asks .first + p .index) known m (types-kept v good .events first xs (types-kept v good .new g) typed) within in
+      let shows = typed-shows (v .seen) (passes-tested v good) (p .asks .first + p .index) known m typed within in
       poll-reads v good m within same p (subst (λ (x : ℕ). Shows m x) (ap (λ (it : Item). it .quantity) (sym here) ∙ p .shows) shows)
 
+  -- after events
+  pub record Held (g : Given) (m : Meter) : Type 0 where
+    pub within : meterOk m ≡ true
+    pub given : m .given ≡ g
+    pub typed : Typed m
+
+  pub new-held : (g : Given) → newOf g .answer ≡ Accepted → Held g (newOf g .meter)
+  new-held g made = record { within = made-within g made; given = ap (λ (x : Meter). x .given) (new-blank g); typed = types-kept v good .new g }
+
+  pub after-held : (g : Given) (m : Meter) (xs : List Event) → Held g m → AllTyped xs → Held g (afterAll v m xs)
+  after-held g m xs h typed = record {
+    within = after-events v good .within m xs (h .within);
+    given = after-events v good .given m xs ∙ h .given;
+    typed = types-kept v good .events m xs (h .typed) typed;
+  }
+
   pub reads-always : ReadsAlways v
-  reads-always = record { polls = polls }
+  reads-always = record {
+    polls = λ g xs made typed q p. let h = after-held g (newOf g .meter) xs (new-held g made) typed in typed-poll g (afterAll v (newOf g .meter) xs) (h .within) (h .given) (h .typed) q p;
+  }

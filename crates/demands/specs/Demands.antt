@@ -26,6 +26,7 @@ use Rattle.directory.specs.Bites.{TestsBite}
 use Rattle.modbus.specs.Read.{ReadWhen, TenantReads}
 use Rattle.reading.specs.Told.{OneAnswerEach}
 use Rattle.collector.specs.When.{RepliesWhen, NotMisread, JoinsWhen}
+use Rattle.collector.specs.Whole.{WholeWhen, OneByOne}
 use Rattle.average.specs.declared.Average.{Average}
 use Rattle.average.specs.Windows.{WindowLengths, AverageLimits, LimitsBite}
 use Rattle.meter.specs.declared.samples.Sample.{Sample}
@@ -48,6 +49,7 @@ use Rattle.demands.specs.LastRows.{LastRows, LastRatios}
 use Rattle.demands.specs.Tenant.{SecondNamed, AtSecond, TenantAsks, TenantAltersNothing, AnswersAlike, TenantLearns, CountsAlone, UnlikeButAlike}
 use Rattle.demands.specs.Averages.{AveragesAlways}
 use Rattle.demands.specs.NotEmpty.{NotEmpty, ReadsAlways}
+use Rattle.demands.specs.Wholes.{WholeAlways, WholeDemand3}
 use Rattle.demands.specs.Determined.{Determined, Numbered}
 use Rattle.demands.specs.ShutOut.{ShutOut}
 use Rattle.demands.specs.Starred.{ExamplesHold}
@@ -67,6 +69,10 @@ EveryMeeting Of = EveryView (λ v. (m : Meter) (request buffer : List ℕ) → M
 -- of every reply to any request, whatever the ratios told and the item asked
 abbrev pub EveryReply : (View → List ℕ → List ℕ → Ratios → ℕ → Type 0) → Type 0
 EveryReply Of = EveryView (λ v. (request reply : List ℕ) (r : Ratios) (index : ℕ) → Of v request reply r index)
+
+-- and whatever the two rows lent
+abbrev pub EveryRows : (View → List ℕ → List ℕ → Ratios → List ℕ → List ℕ → Type 0) → Type 0
+EveryRows Of = EveryView (λ v. (request reply : List ℕ) (r : Ratios) (values kinds : List ℕ) → Of v request reply r values kinds)
 
 -- STATEMENT: demand 1: no frame, sample, record or reply stops the board or the collector, and what is damaged, foreign or refused
 -- leaves the meter and the reply buffer untouched, but for the error reply due. (That no call stops: none has a requires, and each
@@ -161,6 +167,14 @@ pub record Tenants : Type 0 where
   pub learns : EveryView TenantLearns
   pub counts : EveryView CountsAlone
 
+-- STATEMENT: request 4, of the call for a whole reply: when it gives what, that it is asking one by one and loses no reading, that every reply
+-- of a meter is read by it, and demand 3 of what stands in the rows
+pub record Wholes : Type 0 where
+  pub when : EveryRows WholeWhen
+  pub one-by-one : EveryRows OneByOne
+  pub always : EveryView WholeAlways
+  pub energies : EveryView WholeDemand3
+
 -- STATEMENT: the three; demand 3: one energy, read in any of the three places, is never above the exact energy of the samples
 -- accepted so far, and below it by less than one step. None of it is empty, and it leaves no room for the wrong meters that the
 -- paper names
@@ -172,3 +186,4 @@ pub record Demands : Type 0 where
   pub not-empty : EveryView NotEmpty
   pub tight : EveryView ShutOut
   pub tenants : Tenants
+  pub wholes : Wholes

@@ -8,6 +8,7 @@ pub mod LastRows
 pub mod Tenant
 pub mod Averages
 pub mod NotEmpty
+pub mod Wholes
 pub mod Determined
 pub mod Starred
 pub mod ShutOut
