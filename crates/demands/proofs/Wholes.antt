@@ -3,7 +3,7 @@
 use mathlib.Core.Path.{_≡_, refl, sym, ap, ap₂, _∙_}
 use mathlib.Core.Logic.{_⊎_, inl, inr}
 use mathlib.Core.List.{List, [], _∷_}
-use Prim.Native.Nat.{ℕ, _<_}
+use Prim.Native.Nat.{ℕ, _≤_, _<_}
 use native.Mathlib.Omega.{arith}
 use lib.Dec.{T}
 use lib.ListN.{length, getD}
@@ -12,7 +12,12 @@ use Rattle.counts.specs.Counting.{joinOf, joinHalvesOf}
 use Rattle.directory.specs.declared.Span.{Span}
 use Rattle.directory.specs.declared.Span.the-variants as span
 use Rattle.directory.specs.Quantity.{quantity, energyCount, wrap, low, high}
+use Rattle.directory.specs.Order.{shaped}
+use Rattle.directory.specs.Run.{runItems}
 use Rattle.directory.specs.Views.{View, passes}
+use Rattle.directory.proofs.Order.{every-run}
+use Rattle.directory.proofs.Views.{tested-shaped, passes-tested, passes-room}
+use Rattle.modbus.proofs.Judged.{legal-read}
 use Rattle.reading.specs.declared.Quantity.{Quantity}
 use Rattle.reading.specs.declared.Answer.the-variants.{Reading}
 use Rattle.reading.specs.Told.{kindOf}
@@ -22,6 +27,8 @@ use Rattle.board.specs.Board.{toSecond}
 use Rattle.collector.specs.Collector.{collectorIn}
 use Rattle.collector.specs.When.{Fits, askedBy}
 use Rattle.collector.specs.Whole.{CellsOf}
+use Rattle.collector.proofs.Places.{run-length}
+use Rattle.collector.proofs.Rows.{few-items}
 use Rattle.collector.proofs.When.{replies-when}
 use Rattle.collector.proofs.OneByOne.{whole-when, one-by-one, all-given}
 use Rattle.meter.specs.declared.given.Given.{Given}
@@ -94,10 +101,20 @@ module _ (v : View) (good : T (passes v)) where
         by (inl h) = inl (omega (arith, h, same))
         by (inr h) = inr (omega (arith, h, same))
 
+  -- a reply has at most 125 words, and an item one at the least
+  few : {g : Given} {q : ℕ} (p : Poll v g q) → p .asks .count ≤ 125
+  few {g} p =
+      let a = asked-whole v good (toSecond g (p .request)) (p .asks) in
+      let l = legal-read v good (a .items) in
+      let its = runItems (v .seen) (a .first) (a .count) in
+      let some = few-items its (every-run shaped (v .seen) (a .first) (a .count) (tested-shaped (v .seen) (passes-tested v good))) in
+      omega (arith, some, run-length (v .seen) (a .first) (a .count) (l .inside), l .sends, l .most, passes-room v good)
+
   pub whole-always : WholeAlways v
   whole-always = record {
     reads = λ g xs made typed q p rows room. all-cells (afterAll v (newOf g .meter) xs) (after-held v good g (newOf g .meter) xs (new-held v good g made) typed) p rows room;
     short = λ g xs made typed q p rows none. short (afterAll v (newOf g .meter) xs) (after-held v good g (newOf g .meter) xs (new-held v good g made) typed) p rows none;
+    enough = λ m g q p rows a b. record { values-room = omega (arith, few p, a); kinds-room = omega (arith, few p, b) };
   }
 
   -- ---- demand 3, of cells

@@ -66,7 +66,8 @@ module _ (v : View) where
       pub kinds : (index : ℕ) → index < p .asks .count → getD (readWhole .kinds) index 0 ≡ kindOf (meaningOf m (quantityAt index))
 
   -- STATEMENT: from an accepted new meter, after any events as a program hands them over, one call reads every reply with data, at either
-  -- address: all items are in the rows, each as its quantity; only a row that is too short is refused, with 15
+  -- address: all items are in the rows, each as its quantity; only a row that is too short is refused, with 15. Rows of 125 cells have room
+  -- for every reply
   pub record WholeAlways : Type 0 where
     pub reads :
         (g : Given) (xs : List Event) → newOf g .answer ≡ Accepted → AllTyped xs → (q : ℕ) (p : Poll v g q) (rows : TwoRows) →
@@ -74,6 +75,9 @@ module _ (v : View) where
     pub short :
         (g : Given) (xs : List Event) → newOf g .answer ≡ Accepted → AllTyped xs → (q : ℕ) (p : Poll v g q) (rows : TwoRows) →
         NoRoom (afterAll v (newOf g .meter) xs) p rows → GivesWhole (afterAll v (newOf g .meter) xs) p rows (refusedBy 15)
+    pub enough :
+        (m : Meter) (g : Given) (q : ℕ) (p : Poll v g q) (rows : TwoRows) → 125 ≤ length (rows .values) → 125 ≤ length (rows .kinds) →
+        Room m p rows
 
   -- ---- demand 3, of cells
 
