@@ -1,5 +1,5 @@
-// The collector: a request and the reply to it in, one reading out (paper 01, "Collector"). All that it knows of the meter is its
-// directory and the ratios that it is told.
+// The collector: a request and the reply to it in, one reading out (paper 01, "Collector"), or all of them in two rows (`whole`). All
+// that it knows of the meter is its directory and the ratios that it is told.
 ghost use mathlib.Core.Path.{_≡_};
 ghost use Prim.Native.Nat.{_+_, _*_, _≤_};
 ghost use lib.Dec.{T};

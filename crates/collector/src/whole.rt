@@ -33,8 +33,8 @@ pub enum Whole {
 // The words that the longest reply has room for, and so the most items.
 const WORDS_MOST: usize = 125;
 
-// Reads every item of a reply: from cell 0 on, `values` gets what they read as and `kinds` the numbers of their kinds. Only where
-// all items are read is a cell written.
+// Reads every item of a reply: from cell 0 on, `values` gets what each reads as (`Quantity::cell`) and `kinds` the number of its kind
+// (`Quantity::kind`). Only where all items are read is a cell written.
 pub fn read_whole(
     request: &[u8],
     reply: &[u8],
