@@ -167,8 +167,8 @@ pub record Tenants : Type 0 where
   pub learns : EveryView TenantLearns
   pub counts : EveryView CountsAlone
 
--- STATEMENT: request 4, of the call for a whole reply: when it gives what, that it is asking one by one and loses no reading, that every reply
--- of a meter is read by it, and demand 3 of what stands in the rows
+-- STATEMENT: request 4, of the call for a whole reply: when it gives what, that it is asking one by one and loses no reading, that every
+-- reply of a meter is read by it, and demand 3 of what stands in the rows
 pub record Wholes : Type 0 where
   pub when : EveryRows WholeWhen
   pub one-by-one : EveryRows OneByOne
