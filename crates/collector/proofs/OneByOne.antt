@@ -3,7 +3,7 @@ use mathlib.Core.Path.{_≡_, refl, sym, ap, ap₂, subst, _∙_}
 use mathlib.Core.Logic.{_↔_, _⊎_, inl, inr}
 use mathlib.Core.Bool.{Bool, true, false, or-true, false≢true}
 use mathlib.Core.List.{List, [], _∷_, map}
-use Prim.Native.Nat.{ℕ, zero, suc, _+_, _≤_, _<_}
+use Prim.Native.Nat.{ℕ, _+_, _≤_, _<_}
 use native.Mathlib.Omega.{arith}
 use lib.Dec.{T, ltb}
 use lib.ListN.{length, getD}
@@ -12,9 +12,9 @@ use borrow.Author.Tests.{ltb-true, ltb-false, lt-ltb, le-ltb}
 use Rattle.refusal.specs.declared.Refusal.{Refusal}
 use Rattle.refusal.specs.declared.Refusal.the-variants.{RatioOutOfLimits, NotARead, ReplyLength, ReplyCrc, ReplyForeign, ReplyMisfit, ValueImpossible, RowShort}
 use Rattle.refusal.specs.declared.ErrorCode.{ErrorCode}
-use Rattle.refusal.specs.declared.ErrorCode.the-variants.{Function, Address, Data}
 use Rattle.refusal.specs.Numbers.{refusalNumber, errorNumber, refusedBy, errorBy}
 use Rattle.refusal.proofs.Distinct.{one-reason-each, caseIn, numberIn}
+use Rattle.refusal.proofs.Exactly.{Due, refused-as, error-as, else-as, Says, row-of, number-of, code-of, code-said, else-of}
 use Rattle.words.proofs.Laws.{value-fits}
 use Rattle.ratio.specs.declared.Ratios.{Ratios}
 use Rattle.ratio.specs.Ratios.{tOf}
@@ -27,7 +27,7 @@ use Rattle.reading.specs.declared.Quantity.{Quantity}
 use Rattle.reading.specs.declared.Quantity.the-variants.{Plain}
 use Rattle.reading.specs.declared.Answer.{Answer}
 use Rattle.reading.specs.declared.Answer.the-variants as answer
-use Rattle.reading.specs.Told.{kindOf, told}
+use Rattle.reading.specs.Told.{kindOf}
 use Rattle.reading.specs.Readings.{thirteen, readingOf}
 use Rattle.reading.specs.Cells.{cellOf, readBack}
 use Rattle.reading.proofs.Cells.{Back, reading-back}
@@ -37,7 +37,7 @@ use Rattle.collector.specs.Collector.{collectorIn}
 use Rattle.collector.specs.When.{Fits, askedBy, itemAt, valueIn, GivesCode, ReplyGives}
 use Rattle.collector.specs.Whole.{wholeTold, inTurn, isThirteen, anyThirteen, Rows, keptBy, filledBy, wholeIn, WholeGives, Short, SomeImpossible, AllRead, WholeWhen, CellsOf, OneByOne}
 use Rattle.collector.proofs.When as when
-use Rattle.collector.proofs.When.{Row, row-3, row-7, row-8, row-9, row-10, row-11, three, seven, eight, nine, ten, eleven, refused, coded, held, Judging, judging, impossible, possible, replies-when}
+use Rattle.collector.proofs.When.{Row, row-3, row-7, row-8, row-9, row-10, row-11, three, seven, eight, nine, ten, eleven, row-number, refused, coded, held, Judging, judging, impossible, possible, replies-when}
 use Rattle.collector.proofs.Turns.{turns-length, none-at, any-at, any-where, Read, read-length, read-all, read-at, turns-read, cell-in, cell-beyond}
 use Rattle.collector.proofs.Rows.{short, short-kept, refused-kept, all-filled, whole-coded, whole-refused, whole-data}
 
@@ -56,8 +56,8 @@ one-whole-each (Refused reason) (Refused other) h = ap Refused (one-reason-each 
 
 -- ---- a reading or 13, as an item's value is possible or not
 
-says : (t : ℕ) (it : Item) (v : ℕ) → isThirteen (readingOf t it v) ≡ thirteen it v
-says t it v = by (thirteen it v) refl
+tells-13 : (t : ℕ) (it : Item) (v : ℕ) → isThirteen (readingOf t it v) ≡ thirteen it v
+tells-13 t it v = by (thirteen it v) refl
   where
     by : (b : Bool) → thirteen it v ≡ b → isThirteen (readingOf t it v) ≡ b
     by true e = ap isThirteen (impossible t it v e)
@@ -90,7 +90,7 @@ module _ (v : View) (good : T (passes v)) (request reply : List ℕ) (r : Ratios
     reads index b = when.to-reading v good request reply r index (record { fits = f; below = b })
 
     thirteen-at : (index : ℕ) → index < count → isThirteen (ask index) ≡ thirteen (itemAt v (askedBy v f) index) (valueIn v (askedBy v f) reply index)
-    thirteen-at index b = ap isThirteen (reads index b) ∙ says (tOf r) (itemAt v (askedBy v f) index) (valueIn v (askedBy v f) reply index)
+    thirteen-at index b = ap isThirteen (reads index b) ∙ tells-13 (tOf r) (itemAt v (askedBy v f) index) (valueIn v (askedBy v f) reply index)
 
     -- the rows as the tests see them
     as-short : (length values < count) ⊎ (length kinds < count) → short answers values kinds ≡ true
@@ -168,10 +168,17 @@ module _ (v : View) (good : T (passes v)) (request reply : List ℕ) (r : Ratios
 
   -- ---- every call comes to one of them
 
-  data Outcome : Type 0 where
-    refused-as : (reason : Refusal) → Refuses reason → Outcome
-    error-as : (code : ErrorCode) → GivesCode v request reply r (errorNumber code) → Outcome
-    read-as : (n : ℕ) → AllRead v request reply r values kinds n → Outcome
+  abbrev All : Type 0
+  All = (n : ℕ) × AllRead v request reply r values kinds n
+
+  abbrev Outcome : Type 0
+  Outcome = Due (wholeTold (given .answer)) Refuses (GivesCode v request reply r) All
+
+  read-told : (n : ℕ) → AllRead v request reply r values kinds n → WholeGives v request reply r values kinds (0 ∷ n ∷ [])
+  read-told n a = ap (λ (o : Rows). wholeTold (o .answer)) (all-read n a .rows)
+
+  says : Says (wholeTold (given .answer)) Refuses (GivesCode v request reply r) All
+  says = record { refusal = λ w. ap (λ (o : Rows). wholeTold (o .answer)) (refused-whole w); error = λ code e. ap (λ (o : Rows). wholeTold (o .answer)) (coded-whole code e); other = λ e. ap caseIn (read-told (e .0) (e .1)) }
 
   at-data : (f : Fits v request reply r) → Outcome
   at-data f = by (ltb (length values) n) (ltb (length kinds) n) (anyThirteen (answers f)) refl refl refl
@@ -186,7 +193,7 @@ module _ (v : View) (good : T (passes v)) (request reply : List ℕ) (r : Ratios
           let w = any-where n ask z in
           refused-as ValueImpossible (row-13 (record { roomy = record { fits = f; values-room = ltb-false (length values) n x; kinds-room = ltb-false (length kinds) n y }; index = w .0; below = w .1; value = sym (thirteen-at f (w .0) (w .1)) ∙ w .2 }))
       by false false false x y z =
-          read-as n (record { roomy = record { fits = f; values-room = ltb-false (length values) n x; kinds-room = ltb-false (length kinds) n y }; count = refl; possible = λ i b. sym (thirteen-at f i b) ∙ none-at n ask z i b })
+          else-as (n, record { roomy = record { fits = f; values-room = ltb-false (length values) n x; kinds-room = ltb-false (length kinds) n y }; count = refl; possible = λ i b. sym (thirteen-at f i b) ∙ none-at n ask z i b })
 
   outcome : Outcome
   outcome = by (judging v good request reply r)
@@ -198,22 +205,8 @@ module _ (v : View) (good : T (passes v)) (request reply : List ℕ) (r : Ratios
 
   -- ---- and to no two
 
-  refused-told : {reason : Refusal} → Refuses reason → WholeGives v request reply r values kinds (refusedBy (refusalNumber reason))
-  refused-told w = ap (λ (o : Rows). wholeTold (o .answer)) (refused-whole w)
-
-  coded-told : (code : ErrorCode) → GivesCode v request reply r (errorNumber code) → WholeGives v request reply r values kinds (errorBy (errorNumber code))
-  coded-told code e = ap (λ (o : Rows). wholeTold (o .answer)) (coded-whole code e)
-
-  read-told : (n : ℕ) → AllRead v request reply r values kinds n → WholeGives v request reply r values kinds (0 ∷ n ∷ [])
-  read-told n a = ap (λ (o : Rows). wholeTold (o .answer)) (all-read n a .rows)
-
-  only-row : (reason : Refusal) → WholeGives v request reply r values kinds (refusedBy (refusalNumber reason)) → Outcome → Refuses reason
-  only-row reason h (refused-as x w) = subst Refuses (one-reason-each .refusals x reason (ap numberIn (sym (refused-told w) ∙ h))) w
-  only-row reason h (error-as code e) = absurd (let z = ap caseIn (sym (coded-told code e) ∙ h) in omega (arith, z))
-  only-row reason h (read-as n a) = absurd (let z = ap caseIn (sym (read-told n a) ∙ h) in omega (arith, z))
-
-  by-number : (reason : Refusal) {Says : Type 0} → (Refuses reason → Says) → (Says → Refuses reason) → WholeGives v request reply r values kinds (refusedBy (refusalNumber reason)) ↔ Says
-  by-number reason to from = (λ h. to (only-row reason h outcome), λ w. refused-told (from w))
+  by-number : (reason : Refusal) {Means : Type 0} → (Refuses reason → Means) → (Means → Refuses reason) → WholeGives v request reply r values kinds (refusedBy (refusalNumber reason)) ↔ Means
+  by-number reason to from = (λ h. to (row-of _ _ _ _ says reason h outcome), λ w. says .refusal (from w))
 
   -- of those below 12, a row of the reply's
   of-reply : {reason : Refusal} → Refuses reason → refusalNumber reason < 12 → Row v good request reply r reason
@@ -221,7 +214,7 @@ module _ (v : View) (good : T (passes v)) (request reply : List ℕ) (r : Ratios
   of-reply (row-13 w) h = absurd (omega (arith, h))
   of-reply (row-15 w) h = absurd (omega (arith, h))
 
-  by-reply : (reason : Refusal) → refusalNumber reason < 12 → {Says : Type 0} → (Row v good request reply r reason → Says) → (Says → Row v good request reply r reason) → WholeGives v request reply r values kinds (refusedBy (refusalNumber reason)) ↔ Says
+  by-reply : (reason : Refusal) → refusalNumber reason < 12 → {Means : Type 0} → (Row v good request reply r reason → Means) → (Means → Row v good request reply r reason) → WholeGives v request reply r values kinds (refusedBy (refusalNumber reason)) ↔ Means
   by-reply reason small to from = by-number reason (λ w. to (of-reply w small)) (λ s. by-row (from s))
 
   thirteenth : Refuses ValueImpossible → SomeImpossible v request reply r values kinds
@@ -234,37 +227,19 @@ module _ (v : View) (good : T (passes v)) (request reply : List ℕ) (r : Ratios
   abbrev Among : ℕ → Type 0
   Among n = (n ≡ 3) ⊎ ((7 ≤ n) × (n ≤ 11)) ⊎ (n ≡ 13) ⊎ (n ≡ 15)
 
-  numbered : {reason : Refusal} → Refuses reason → Among (refusalNumber reason)
-  numbered (by-row (row-3 h)) = inl refl
-  numbered (by-row (row-7 h)) = inr (inl (omega arith, omega arith))
-  numbered (by-row (row-8 h)) = inr (inl (omega arith, omega arith))
-  numbered (by-row (row-9 h)) = inr (inl (omega arith, omega arith))
-  numbered (by-row (row-10 h)) = inr (inl (omega arith, omega arith))
-  numbered (by-row (row-11 h)) = inr (inl (omega arith, omega arith))
-  numbered (row-13 h) = inr (inr (inl refl))
-  numbered (row-15 h) = inr (inr (inr refl))
+  numbered : (reason : Refusal) → Refuses reason → Among (refusalNumber reason)
+  numbered reason (by-row w) = by (row-number v good request reply r w)
+    where
+      by : (refusalNumber reason ≡ 3) ⊎ ((7 ≤ refusalNumber reason) × (refusalNumber reason ≤ 11)) → Among (refusalNumber reason)
+      by (inl e) = inl e
+      by (inr e) = inr (inl e)
+  numbered reason (row-13 h) = inr (inr (inl refl))
+  numbered reason (row-15 h) = inr (inr (inr refl))
 
-  only : (n : ℕ) → WholeGives v request reply r values kinds (refusedBy n) → Outcome → Among n
-  only n h (refused-as x w) = subst Among (ap numberIn (sym (refused-told w) ∙ h)) (numbered w)
-  only n h (error-as code e) = absurd (let z = ap caseIn (sym (coded-told code e) ∙ h) in omega (arith, z))
-  only n h (read-as k a) = absurd (let z = ap caseIn (sym (read-told k a) ∙ h) in omega (arith, z))
-
-  only-error : (n : ℕ) → WholeGives v request reply r values kinds (errorBy n) → Outcome → GivesCode v request reply r n
-  only-error n h (refused-as x w) = absurd (let z = ap caseIn (sym (refused-told w) ∙ h) in omega (arith, z))
-  only-error n h (error-as code e) = subst (λ (k : ℕ). GivesCode v request reply r k) (ap numberIn (sym (coded-told code e) ∙ h)) e
-  only-error n h (read-as k a) = absurd (let z = ap caseIn (sym (read-told k a) ∙ h) in omega (arith, z))
-
-  errs-told : (n : ℕ) → GivesCode v request reply r n → WholeGives v request reply r values kinds (errorBy n)
-  errs-told zero e = absurd (omega (arith, e .some))
-  errs-told (suc zero) e = coded-told Function e
-  errs-told (suc (suc zero)) e = coded-told Address e
-  errs-told (suc (suc (suc zero))) e = coded-told Data e
-  errs-told (suc (suc (suc (suc n)))) e = absurd (omega (arith, e .most))
-
-  only-read : (n : ℕ) → WholeGives v request reply r values kinds (0 ∷ n ∷ []) → Outcome → AllRead v request reply r values kinds n
-  only-read n h (refused-as x w) = absurd (let z = ap caseIn (sym (refused-told w) ∙ h) in omega (arith, z))
-  only-read n h (error-as code e) = absurd (let z = ap caseIn (sym (coded-told code e) ∙ h) in omega (arith, z))
-  only-read n h (read-as k a) = subst (λ (j : ℕ). AllRead v request reply r values kinds j) (ap numberIn (sym (read-told k a) ∙ h)) a
+  only-read : (n : ℕ) → WholeGives v request reply r values kinds (0 ∷ n ∷ []) → AllRead v request reply r values kinds n
+  only-read n h =
+      let e = else-of _ _ _ _ says (ap caseIn h) outcome in
+      subst (λ (j : ℕ). AllRead v request reply r values kinds j) (ap numberIn (sym (read-told (e .0) (e .1)) ∙ h)) (e .1)
 
   pub whole-when : WholeWhen v request reply r values kinds
   whole-when = record {
@@ -274,11 +249,11 @@ module _ (v : View) (good : T (passes v)) (request reply : List ℕ) (r : Ratios
     row-9 = by-reply ReplyCrc (omega arith) (nine v good request reply r) row-9;
     row-10 = by-reply ReplyForeign (omega arith) (ten v good request reply r) row-10;
     row-11 = by-reply ReplyMisfit (omega arith) (eleven v good request reply r) row-11;
-    error = λ n. (λ h. only-error n h outcome, errs-told n);
+    error = λ n. (λ h. code-of _ _ _ _ says n h outcome, λ e. code-said _ _ _ _ says n (e .some) (e .most) e);
     row-15 = by-number RowShort fifteenth row-15;
     row-13 = by-number ValueImpossible thirteenth row-13;
-    items = λ n. (λ h. only-read n h outcome, read-told n);
-    only = λ n h. only n h outcome;
+    items = λ n. (only-read n, read-told n);
+    only = λ n h. number-of _ _ _ _ says Among numbered n h outcome;
   }
 
   -- ---- the rows
@@ -286,19 +261,19 @@ module _ (v : View) (good : T (passes v)) (request reply : List ℕ) (r : Ratios
   kept-values : ((n : ℕ) → WholeGives v request reply r values kinds (0 ∷ n ∷ []) → ⊥) → Outcome → (given .values ≡ values) × (given .kinds ≡ kinds)
   kept-values none (refused-as x w) = (ap (λ (o : Rows). o .values) (refused-whole w), ap (λ (o : Rows). o .kinds) (refused-whole w))
   kept-values none (error-as code e) = (ap (λ (o : Rows). o .values) (coded-whole code e), ap (λ (o : Rows). o .kinds) (coded-whole code e))
-  kept-values none (read-as n a) = absurd (none n (read-told n a))
+  kept-values none (else-as e) = absurd (none (e .0) (read-told (e .0) (e .1)))
 
   row-lengths : Outcome → (length (given .values) ≡ length values) × (length (given .kinds) ≡ length kinds)
   row-lengths (refused-as x w) = (ap (λ (o : Rows). length (o .values)) (refused-whole w), ap (λ (o : Rows). length (o .kinds)) (refused-whole w))
   row-lengths (error-as code e) = (ap (λ (o : Rows). length (o .values)) (coded-whole code e), ap (λ (o : Rows). length (o .kinds)) (coded-whole code e))
-  row-lengths (read-as n a) =
-      let t = all-read n a in
+  row-lengths (else-as e) =
+      let t = all-read (e .0) (e .1) in
       (ap (λ (o : Rows). length (o .values)) (t .rows) ∙ length-sets values 0 (map cellOf (t .qs)), ap (λ (o : Rows). length (o .kinds)) (t .rows) ∙ length-sets kinds 0 (map kindOf (t .qs)))
 
   -- where n items are read
   module _ (n : ℕ) (says-n : WholeGives v request reply r values kinds (0 ∷ n ∷ [])) where
     found : Readings n
-    found = all-read n (only-read n says-n outcome)
+    found = all-read n (only-read n says-n)
 
     many : length (found .qs) ≡ n
     many = read-length n ask (found .qs) (found .read)
@@ -337,33 +312,32 @@ module _ (v : View) (good : T (passes v)) (request reply : List ℕ) (r : Ratios
       let one = replies-when v good request reply r index .error code in
       (λ h. one .1 (whole-when .error code .0 h), λ h. whole-when .error code .1 (one .0 h))
 
-  -- 12 and above are no rows of the reply's
-  outside : (n : ℕ) → (n ≡ 3) ⊎ ((7 ≤ n) × (n ≤ 11)) → 12 ≤ n → ⊥
-  outside n (inl e) h = omega (arith, e, h)
-  outside n (inr e) h = omega (arith, e .1, h)
-
   -- a row of the reply's is given by both
-  to-each : (number index : ℕ) → (number ≡ 3) ⊎ ((7 ≤ number) × (number ≤ 11)) → WholeGives v request reply r values kinds (refusedBy number) → Outcome → ReplyGives v request reply r index (refusedBy number)
-  to-each number index among h (refused-as x (by-row w)) =
-      ap told (when.item-refused v good request reply r index (when.by-row w)) ∙ ap refusedBy (ap numberIn (sym (refused-told (by-row w)) ∙ h))
-  to-each number index among h (refused-as x (row-13 w)) = absurd (outside number among (let z = ap numberIn (sym (refused-told (row-13 w)) ∙ h) in omega (arith, z)))
-  to-each number index among h (refused-as x (row-15 w)) = absurd (outside number among (let z = ap numberIn (sym (refused-told (row-15 w)) ∙ h) in omega (arith, z)))
-  to-each number index among h (error-as code e) = absurd (let z = ap caseIn (sym (coded-told code e) ∙ h) in omega (arith, z))
-  to-each number index among h (read-as n a) = absurd (let z = ap caseIn (sym (read-told n a) ∙ h) in omega (arith, z))
+  abbrev OfReply : ℕ → Type 0
+  OfReply n = (n ≡ 3) ⊎ ((7 ≤ n) × (n ≤ 11))
 
-  from-each : (number index : ℕ) → (number ≡ 3) ⊎ ((7 ≤ number) × (number ≤ 11)) → ReplyGives v request reply r index (refusedBy number) → when.Outcome v good request reply r index → WholeGives v request reply r values kinds (refusedBy number)
-  from-each number index among h (when.refused-as x (when.by-row w)) =
-      refused-told (by-row w) ∙ ap refusedBy (ap numberIn (sym (ap told (when.item-refused v good request reply r index (when.by-row w))) ∙ h))
-  from-each number index among h (when.refused-as x (when.row-12 w)) = absurd (outside number among (let z = ap numberIn (sym (ap told (when.item-refused v good request reply r index (when.row-12 w))) ∙ h) in omega (arith, z)))
-  from-each number index among h (when.refused-as x (when.row-13 w)) = absurd (outside number among (let z = ap numberIn (sym (ap told (when.item-refused v good request reply r index (when.row-13 w))) ∙ h) in omega (arith, z)))
-  from-each number index among h (when.error-as code e) = absurd (let z = ap caseIn (sym (ap told (when.item-coded v good request reply r index code e)) ∙ h) in omega (arith, z))
-  from-each number index among h (when.tells q e) = absurd (let z = ap caseIn (sym (ap told (when.item-read v good request reply r index q e)) ∙ h) in omega (arith, z))
+  outside : {A : Type 0} (n : ℕ) → 12 ≤ n → OfReply n → A
+  outside n h (inl e) = absurd (omega (arith, e, h))
+  outside n h (inr e) = absurd (omega (arith, e .1, h))
+
+  to-each : (index : ℕ) (reason : Refusal) → Refuses reason → OfReply (refusalNumber reason) → ReplyGives v request reply r index (refusedBy (refusalNumber reason))
+  to-each index reason (by-row w) among = when.says v good request reply r index .refusal (when.by-row w)
+  to-each index reason (row-13 w) among = outside 13 (omega arith) among
+  to-each index reason (row-15 w) among = outside 15 (omega arith) among
+
+  from-each : (index : ℕ) (reason : Refusal) → when.Refuses v good request reply r index reason → OfReply (refusalNumber reason) → WholeGives v request reply r values kinds (refusedBy (refusalNumber reason))
+  from-each index reason (when.by-row w) among = says .refusal (by-row w)
+  from-each index reason (when.row-12 w) among = outside 12 (omega arith) among
+  from-each index reason (when.row-13 w) among = outside 13 (omega arith) among
 
   pub one-by-one : OneByOne v request reply r values kinds
   unfolding cells-of
   one-by-one = record {
     code = codes;
-    judged = λ number index among. (λ h. to-each number index among h outcome, λ h. from-each number index among h (when.outcome v good request reply r index));
+    judged = λ number index among. (
+      λ h. number-of _ _ _ _ says (λ (n : ℕ). OfReply n → ReplyGives v request reply r index (refusedBy n)) (to-each index) number h outcome among,
+      λ h. number-of _ _ _ _ (when.says v good request reply r index) (λ (n : ℕ). OfReply n → WholeGives v request reply r values kinds (refusedBy n)) (from-each index) number h (when.outcome v good request reply r index) among,
+    );
     kept = λ none. kept-values none outcome;
     lengths = row-lengths outcome;
     each = cells-of;

@@ -3,7 +3,7 @@ use mathlib.Core.Path.{_≡_, refl, sym, ap, subst, _∙_}
 use mathlib.Core.Logic.{_↔_, _⊎_, inl, inr}
 use mathlib.Core.Bool.{Bool, true, false, _||_, not, cond, false≢true}
 use mathlib.Core.List.{List}
-use Prim.Native.Nat.{ℕ, zero, suc, _/_, _≤_, _<_}
+use Prim.Native.Nat.{ℕ, _/_, _≤_, _<_}
 use native.Mathlib.Omega.{arith}
 use lib.Dec.{T, ltb, eqb}
 use lib.ListN.{length, getD}
@@ -12,8 +12,9 @@ use Rattle.refusal.specs.declared.Refusal.{Refusal}
 use Rattle.refusal.specs.declared.Refusal.the-variants.{RatioOutOfLimits, NotARead, ReplyLength, ReplyCrc, ReplyForeign, ReplyMisfit, IndexPastItems, ValueImpossible}
 use Rattle.refusal.specs.declared.ErrorCode.{ErrorCode}
 use Rattle.refusal.specs.declared.ErrorCode.the-variants.{Function, Address, Data}
-use Rattle.refusal.specs.Numbers.{refusalNumber, errorNumber, refusedBy, errorBy}
-use Rattle.refusal.proofs.Distinct.{one-reason-each, caseIn, numberIn}
+use Rattle.refusal.specs.Numbers.{refusalNumber, errorNumber, refusedBy}
+use Rattle.refusal.proofs.Distinct.{caseIn}
+use Rattle.refusal.proofs.Exactly.{Due, refused-as, error-as, else-as, Says, row-of, number-of, code-of, code-said, else-of}
 use Rattle.crc.specs.Crc.{intact}
 use Rattle.words.specs.Words.{valueAt}
 use Rattle.ratio.specs.declared.Ratios.{Ratios}
@@ -35,7 +36,6 @@ use Rattle.reading.specs.declared.Answer.{Answer}
 use Rattle.reading.specs.declared.Answer.the-variants.{Reading, Error, Refused}
 use Rattle.reading.specs.Told.{told}
 use Rattle.reading.specs.Readings.{thirteen, quantitiesOf, readingOf}
-use Rattle.reading.proofs.Told.{one-answer-each}
 use Rattle.reading.proofs.Cells.{quantityIn}
 use Rattle.collector.specs.declared.Judgement.{Judgement}
 use Rattle.collector.specs.declared.Judgement.the-variants as judgement
@@ -133,6 +133,15 @@ module _ (v : View) (good : T (passes v)) where
 
     pub eleven : Row ReplyMisfit → Misfits v request reply r
     eleven (row-11 h) = h
+
+    -- and its number
+    pub row-number : {reason : Refusal} → Row reason → (refusalNumber reason ≡ 3) ⊎ ((7 ≤ refusalNumber reason) × (refusalNumber reason ≤ 11))
+    row-number (row-3 h) = inl refl
+    row-number (row-7 h) = inr (omega arith, omega arith)
+    row-number (row-8 h) = inr (omega arith, omega arith)
+    row-number (row-9 h) = inr (omega arith, omega arith)
+    row-number (row-10 h) = inr (omega arith, omega arith)
+    row-number (row-11 h) = inr (omega arith, omega arith)
 
     to-reply : (a : Asked v request r) → judged ≡ replyOf request reply (judgement.Items (a .asks .first) (a .asks .count))
     unfolding judgedIn
@@ -273,10 +282,14 @@ module _ (v : View) (good : T (passes v)) where
 
     -- ---- every call comes to one of them
 
-    pub data Outcome : Type 0 where
-      refused-as : (reason : Refusal) → Refuses reason → Outcome
-      error-as : (code : ErrorCode) → GivesCode v request reply r (errorNumber code) → Outcome
-      tells : (q : Quantity) → Reads v request reply r index q → Outcome
+    abbrev Some : Type 0
+    Some = (q : Quantity) × Reads v request reply r index q
+
+    abbrev Outcome : Type 0
+    Outcome = Due (told given) Refuses (GivesCode v request reply r) Some
+
+    pub says : Says (told given) Refuses (GivesCode v request reply r) Some
+    says = record { refusal = λ w. ap told (item-refused w); error = λ code e. ap told (item-coded code e); other = λ e. ap (λ (a : Answer). caseIn (told a)) (item-read (e .0) (e .1)) }
 
     -- 13, or the reading
     at-item : (h : Holds v request reply r index) → Outcome
@@ -287,7 +300,7 @@ module _ (v : View) (good : T (passes v)) where
 
         by : (t : Bool) → thirteen (itemAt v a index) (valueIn v a reply index) ≡ t → Outcome
         by true e = refused-as ValueImpossible (row-13 (record { holds = h; value = e }))
-        by false e = tells _ (record { holds = h; reading = possible _ _ _ e })
+        by false e = else-as (_, record { holds = h; reading = possible _ _ _ e })
 
     -- 12
     at-index : (f : Fits v request reply r) → Outcome
@@ -310,21 +323,8 @@ module _ (v : View) (good : T (passes v)) where
 
     -- ---- and to no two
 
-    -- what each outcome says in numbers
-    refuses-told : {reason : Refusal} → Refuses reason → ReplyGives v request reply r index (refusedBy (refusalNumber reason))
-    refuses-told w = ap told (item-refused w)
-
-    errors-told : (code : ErrorCode) → GivesCode v request reply r (errorNumber code) → ReplyGives v request reply r index (errorBy (errorNumber code))
-    errors-told code e = ap told (item-coded code e)
-
-    -- a refusal is due to its row
-    only-row : (reason : Refusal) → given ≡ Refused reason → Outcome → Refuses reason
-    only-row reason h (refused-as x w) = subst Refuses (one-reason-each .refusals x reason (ap numberIn (sym (refuses-told w) ∙ ap told h))) w
-    only-row reason h (error-as code e) = absurd (let z = ap caseIn (sym (errors-told code e) ∙ ap told h) in omega (arith, z))
-    only-row reason h (tells q e) = absurd (let z = ap caseIn (ap told (sym (item-read q e) ∙ h)) in omega (arith, z))
-
-    by-number : (reason : Refusal) {Says : Type 0} → (Refuses reason → Says) → (Says → Refuses reason) → ReplyGives v request reply r index (refusedBy (refusalNumber reason)) ↔ Says
-    by-number reason to from = (λ h. to (only-row reason (one-answer-each .answers given (Refused reason) h) outcome), λ w. refuses-told (from w))
+    by-number : (reason : Refusal) {Means : Type 0} → (Refuses reason → Means) → (Means → Refuses reason) → ReplyGives v request reply r index (refusedBy (refusalNumber reason)) ↔ Means
+    by-number reason to from = (λ h. to (row-of _ _ _ _ says reason h outcome), λ w. says .refusal (from w))
 
     -- of those below 12, a row of the reply's
     of-reply : {reason : Refusal} → Refuses reason → refusalNumber reason < 12 → Row request reply r reason
@@ -332,7 +332,7 @@ module _ (v : View) (good : T (passes v)) where
     of-reply (row-12 w) h = absurd (omega (arith, h))
     of-reply (row-13 w) h = absurd (omega (arith, h))
 
-    by-reply : (reason : Refusal) → refusalNumber reason < 12 → {Says : Type 0} → (Row request reply r reason → Says) → (Says → Row request reply r reason) → ReplyGives v request reply r index (refusedBy (refusalNumber reason)) ↔ Says
+    by-reply : (reason : Refusal) → refusalNumber reason < 12 → {Means : Type 0} → (Row request reply r reason → Means) → (Means → Row request reply r reason) → ReplyGives v request reply r index (refusedBy (refusalNumber reason)) ↔ Means
     by-reply reason small to from = by-number reason (λ w. to (of-reply w small)) (λ s. by-row (from s))
 
     twelve : Refuses IndexPastItems → Past v request reply r index
@@ -342,38 +342,22 @@ module _ (v : View) (good : T (passes v)) where
     thirteenth (row-13 h) = h
 
     -- the numbers of the rows
-    numbered : {reason : Refusal} → Refuses reason → (refusalNumber reason ≡ 3) ⊎ ((7 ≤ refusalNumber reason) × (refusalNumber reason ≤ 13))
-    numbered (by-row (row-3 h)) = inl refl
-    numbered (by-row (row-7 h)) = inr (omega arith, omega arith)
-    numbered (by-row (row-8 h)) = inr (omega arith, omega arith)
-    numbered (by-row (row-9 h)) = inr (omega arith, omega arith)
-    numbered (by-row (row-10 h)) = inr (omega arith, omega arith)
-    numbered (by-row (row-11 h)) = inr (omega arith, omega arith)
-    numbered (row-12 h) = inr (omega arith, omega arith)
-    numbered (row-13 h) = inr (omega arith, omega arith)
+    abbrev Among : ℕ → Type 0
+    Among n = (n ≡ 3) ⊎ ((7 ≤ n) × (n ≤ 13))
 
-    only : (n : ℕ) → ReplyGives v request reply r index (refusedBy n) → Outcome → (n ≡ 3) ⊎ ((7 ≤ n) × (n ≤ 13))
-    only n h (refused-as x w) = subst (λ (k : ℕ). (k ≡ 3) ⊎ ((7 ≤ k) × (k ≤ 13))) (ap numberIn (sym (refuses-told w) ∙ h)) (numbered w)
-    only n h (error-as code e) = absurd (let z = ap caseIn (sym (errors-told code e) ∙ h) in omega (arith, z))
-    only n h (tells q e) = absurd (let z = ap caseIn (sym (ap told (item-read q e)) ∙ h) in omega (arith, z))
+    numbered : (reason : Refusal) → Refuses reason → Among (refusalNumber reason)
+    numbered reason (by-row w) = by (row-number request reply r w)
+      where
+        by : (refusalNumber reason ≡ 3) ⊎ ((7 ≤ refusalNumber reason) × (refusalNumber reason ≤ 11)) → Among (refusalNumber reason)
+        by (inl e) = inl e
+        by (inr e) = inr (e .0, omega (arith, e .1))
+    numbered reason (row-12 h) = inr (omega arith, omega arith)
+    numbered reason (row-13 h) = inr (omega arith, omega arith)
 
-    only-error : (n : ℕ) → ReplyGives v request reply r index (errorBy n) → Outcome → GivesCode v request reply r n
-    only-error n h (refused-as x w) = absurd (let z = ap caseIn (sym (refuses-told w) ∙ h) in omega (arith, z))
-    only-error n h (error-as code e) = subst (λ (k : ℕ). GivesCode v request reply r k) (ap numberIn (sym (errors-told code e) ∙ h)) e
-    only-error n h (tells q e) = absurd (let z = ap caseIn (sym (ap told (item-read q e)) ∙ h) in omega (arith, z))
-
-    -- a code that is 1, 2 or 3 has its name
-    errs-told : (n : ℕ) → GivesCode v request reply r n → ReplyGives v request reply r index (errorBy n)
-    errs-told zero e = absurd (omega (arith, e .some))
-    errs-told (suc zero) e = errors-told Function e
-    errs-told (suc (suc zero)) e = errors-told Address e
-    errs-told (suc (suc (suc zero))) e = errors-told Data e
-    errs-told (suc (suc (suc (suc n)))) e = absurd (omega (arith, e .most))
-
-    only-reading : (q : Quantity) → given ≡ Reading q → Outcome → Reads v request reply r index q
-    only-reading q h (refused-as x w) = absurd (let z = ap caseIn (sym (refuses-told w) ∙ ap told h) in omega (arith, z))
-    only-reading q h (error-as code e) = absurd (let z = ap caseIn (sym (errors-told code e) ∙ ap told h) in omega (arith, z))
-    only-reading q h (tells x e) = subst (λ (c : Quantity). Reads v request reply r index c) (ap (quantityIn q) (sym (item-read x e) ∙ h)) e
+    only-reading : (q : Quantity) → given ≡ Reading q → Reads v request reply r index q
+    only-reading q h =
+        let e = else-of _ _ _ _ says (ap (λ (a : Answer). caseIn (told a)) h) outcome in
+        subst (λ (c : Quantity). Reads v request reply r index c) (ap (quantityIn q) (sym (item-read (e .0) (e .1)) ∙ h)) (e .1)
 
     pub replies-when : RepliesWhen v request reply r index
     replies-when = record {
@@ -385,9 +369,9 @@ module _ (v : View) (good : T (passes v)) where
       row-11 = by-reply ReplyMisfit (omega arith) (eleven request reply r) row-11;
       row-12 = by-number IndexPastItems twelve row-12;
       row-13 = by-number ValueImpossible thirteenth row-13;
-      only = λ n h. only n h outcome;
-      error = λ n. (λ h. only-error n h outcome, errs-told n);
-      reading = λ q. (λ h. only-reading q h outcome, item-read q);
+      only = λ n h. number-of _ _ _ _ says Among numbered n h outcome;
+      error = λ n. (λ h. code-of _ _ _ _ says n h outcome, λ e. code-said _ _ _ _ says n (e .some) (e .most) e);
+      reading = λ q. (only-reading q, item-read q);
     }
 
 -- ---- what follows
