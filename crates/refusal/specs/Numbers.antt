@@ -1,4 +1,5 @@
--- Paper 01, "Refusal numbers", row by row, paper 02's number behind them (request 4), and the error codes of documents 000, 001, 003 and 004 ("Error codes").
+-- Paper 01, "Refusal numbers", row by row, paper 02's number behind them (request 4), and the error codes of documents 000, 001, 003 and
+-- 004 ("Error codes").
 use mathlib.Core.Path.{_≡_}
 use Prim.Native.Nat.{ℕ}
 use mathlib.Core.List.{List, [], _∷_}
