@@ -79,7 +79,7 @@ module _ (v : View) (writes : Bool) (m : Meter) (frame buffer : List ℕ) where
   pub obeys-other : isRead frame ≡ false → (writes && isWrite frame) ≡ false → sentOrSilent frame (errorReply frame Function) m buffer ≡ obeyedIn v writes m frame buffer
   obeys-other r w = rw (r, w) refl
 
-  pub obeys-read : isRead frame ≡ true → sentOrSilent frame (readReply v (shownOf m) frame) m buffer ≡ obeyedIn v writes m frame buffer
+  pub obeys-read : isRead frame ≡ true → sentOrSilent frame (readReply v (m .given .order) (shownOf m) frame) m buffer ≡ obeyedIn v writes m frame buffer
   obeys-read r = rw r refl
 
   pub obeys-write : (writes && isWrite frame) ≡ true → sentOrSilent frame (writeReply frame (writtenOf m frame .verdict)) (writtenOf m frame .meter) buffer ≡ obeyedIn v writes m frame buffer
@@ -92,8 +92,8 @@ module _ (v : View) (writes : Bool) (m : Meter) (frame buffer : List ℕ) where
   to-one : (bytes : List ℕ) (n : Meter) → (addressOf frame ≡ 0 → ⊥) → (k : ℕ) (after : List ℕ) → k ≡ length bytes → after ≡ sets buffer 0 bytes → record { handled = record { reply = Sent k; meter = n }; buffer = after } ≡ sentOrSilent frame bytes n buffer
   to-one bytes n z k after l s = rw (ne-eqb (addressOf frame) 0 z, l, s) refl
 
-  pub read-sent : isRead frame ≡ true → (addressOf frame ≡ 0 → ⊥) → (k : ℕ) (after : List ℕ) → k ≡ length (readReply v (shownOf m) frame) → after ≡ sets buffer 0 (readReply v (shownOf m) frame) → record { handled = record { reply = Sent k; meter = m }; buffer = after } ≡ obeyedIn v writes m frame buffer
-  read-sent r z k after l s = to-one (readReply v (shownOf m) frame) m z k after l s ∙ obeys-read r
+  pub read-sent : isRead frame ≡ true → (addressOf frame ≡ 0 → ⊥) → (k : ℕ) (after : List ℕ) → k ≡ length (readReply v (m .given .order) (shownOf m) frame) → after ≡ sets buffer 0 (readReply v (m .given .order) (shownOf m) frame) → record { handled = record { reply = Sent k; meter = m }; buffer = after } ≡ obeyedIn v writes m frame buffer
+  read-sent r z k after l s = to-one (readReply v (m .given .order) (shownOf m) frame) m z k after l s ∙ obeys-read r
 
   pub other-sent : isRead frame ≡ false → (writes && isWrite frame) ≡ false → (addressOf frame ≡ 0 → ⊥) → (k : ℕ) (after : List ℕ) → k ≡ length (errorReply frame Function) → after ≡ sets buffer 0 (errorReply frame Function) → record { handled = record { reply = Sent k; meter = m }; buffer = after } ≡ obeyedIn v writes m frame buffer
   other-sent r w z k after l s = to-one (errorReply frame Function) m z k after l s ∙ obeys-other r w
@@ -102,7 +102,7 @@ module _ (v : View) (writes : Bool) (m : Meter) (frame buffer : List ℕ) where
   unwritten w z = by (isRead frame) refl
     where
       by : (b : Bool) → isRead frame ≡ b → silentOf m buffer ≡ obeyedIn v writes m frame buffer
-      by true r = to-all (readReply v (shownOf m) frame) m z ∙ obeys-read r
+      by true r = to-all (readReply v (m .given .order) (shownOf m) frame) m z ∙ obeys-read r
       by false r = to-all (errorReply frame Function) m z ∙ obeys-other r w
 
   module _ (h : (writes && isWrite frame) ≡ true) (w : Written) (e : w ≡ writtenOf m frame) where

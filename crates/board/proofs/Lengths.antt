@@ -11,6 +11,7 @@ use Rattle.refusal.specs.declared.Refusal.{Refusal}
 use Rattle.refusal.specs.declared.Refusal.the-variants.{MeterOutOfLimits, BufferShort}
 use Rattle.refusal.specs.declared.ErrorCode.the-variants.{Function}
 use Rattle.crc.proofs.Laws.{length-sealed}
+use Rattle.words.specs.declared.Order.{Order}
 use Rattle.directory.specs.declared.Span.{Span}
 use Rattle.directory.specs.declared.Span.the-variants.{Items, Error}
 use Rattle.directory.specs.Run.{runItems}
@@ -47,18 +48,18 @@ write-long : (frame : List ℕ) (verdict : Verdict) → length (writeReply frame
 write-long frame (Wrong code) = omega arith
 write-long frame Good = echo-long frame
 
-module _ (v : View) (good : T (passes v)) (shown : ℕ → ℕ) (frame : List ℕ) where
-  pub data-long : (first count : ℕ) → readIn v frame ≡ Items first count → length (dataReply frame (itemsSent shown (runItems (v .seen) first count))) ≤ 256
+module _ (v : View) (good : T (passes v)) (o : Order) (shown : ℕ → ℕ) (frame : List ℕ) where
+  pub data-long : (first count : ℕ) → readIn v frame ≡ Items first count → length (dataReply frame (itemsSent o shown (runItems (v .seen) first count))) ≤ 256
   data-long first count e =
       let a = legal-read v good e in
       let its = runItems (v .seen) first count in
-      let bs = addressOf frame ∷ functionOf frame ∷ 2 * wordNumber frame ∷ itemsSent shown its in
-      omega (arith, length-sealed bs, length-items shown its, a .sends, a .most, passes-room v good)
+      let bs = addressOf frame ∷ functionOf frame ∷ 2 * wordNumber frame ∷ itemsSent o shown its in
+      omega (arith, length-sealed bs, length-items o shown its, a .sends, a .most, passes-room v good)
 
-  read-long : length (readReply v shown frame) ≤ 256
+  read-long : length (readReply v o shown frame) ≤ 256
   read-long = by (readIn v frame) refl
     where
-      by : (span : Span) → readIn v frame ≡ span → length (readBytes v shown frame span) ≤ 256
+      by : (span : Span) → readIn v frame ≡ span → length (readBytes v o shown frame span) ≤ 256
       by (Error code) e = omega arith
       by (Items first count) e = data-long first count e
 
@@ -87,7 +88,7 @@ module _ (v : View) (good : T (passes v)) (m : Meter) (frame b : List ℕ) where
   short-obeyed : (writes : Bool) → Short (obeyedIn v writes m frame b)
   short-obeyed writes =
       short-either (not (isRead frame) && not (writes && isWrite frame)) _ _ (short-reply frame (errorReply frame Function) m b (omega arith))
-      (short-either (isRead frame) _ _ (short-reply frame (readReply v (shownOf m) frame) m b (read-long v good (shownOf m) frame))
+      (short-either (isRead frame) _ _ (short-reply frame (readReply v (m .given .order) (shownOf m) frame) m b (read-long v good (m .given .order) (shownOf m) frame))
       (short-reply frame (writeReply frame (writtenOf m frame .verdict)) (writtenOf m frame .meter) b (write-long frame (writtenOf m frame .verdict))))
 
   short-heard : (address : ℕ) (writes : Bool) → Short (heardAs address v writes m frame b)

@@ -6,6 +6,7 @@ use native.Mathlib.Numerals.{add-one}
 use native.Mathlib.Omega.{arith}
 use lib.ListN.{length, getD, drop, length-append}
 use lib.Seq.{sets, drop-cons}
+use Rattle.words.specs.declared.Order.{Order}
 use Rattle.words.specs.Words.{sent}
 use Rattle.words.proofs.Laws.{sets-append, length-sent}
 use Rattle.directory.specs.declared.Item.{Item}
@@ -14,12 +15,12 @@ use Rattle.directory.specs.Run.{wordsOf}
 use Rattle.board.specs.Reads.{itemsSent}
 
 -- items have two bytes a word
-pub length-items : (shown : ℕ → ℕ) (its : List Item) → length (itemsSent shown its) ≡ 2 * wordsOf its
+pub length-items : (o : Order) (shown : ℕ → ℕ) (its : List Item) → length (itemsSent o shown its) ≡ 2 * wordsOf its
 unfolding itemsSent wordsOf
-length-items shown [] = refl
-length-items shown (it ∷ its) =
-    length-append (sent (it .words) (shown (it .quantity))) (itemsSent shown its)
-    ∙ omega (arith, length-sent (it .words) (shown (it .quantity)), length-items shown its)
+length-items o shown [] = refl
+length-items o shown (it ∷ its) =
+    length-append (sent o (it .words) (shown (it .quantity))) (itemsSent o shown its)
+    ∙ omega (arith, length-sent o (it .words) (shown (it .quantity)), length-items o shown its)
 
 -- at one of them
 module _ (its : List Item) (i : ℕ) (h : i < length its) where
@@ -30,9 +31,9 @@ module _ (its : List Item) (i : ℕ) (h : i < length its) where
   unfolding wordsOf
   words-on = ap wordsOf left-on
 
-  pub sent-on : (shown : ℕ → ℕ) (buffer after : List ℕ) (at : ℕ) (it : Item) → it ≡ getD its i none → after ≡ sets buffer at (sent (it .words) (shown (it .quantity))) → sets after (at + 2 * it .words) (itemsSent shown (drop (i + 1) its)) ≡ sets buffer at (itemsSent shown (drop i its))
+  pub sent-on : (o : Order) (shown : ℕ → ℕ) (buffer after : List ℕ) (at : ℕ) (it : Item) → it ≡ getD its i none → after ≡ sets buffer at (sent o (it .words) (shown (it .quantity))) → sets after (at + 2 * it .words) (itemsSent o shown (drop (i + 1) its)) ≡ sets buffer at (itemsSent o shown (drop i its))
   unfolding itemsSent
-  sent-on shown buffer after at it e s =
+  sent-on o shown buffer after at it e s =
       let v = shown (it .quantity) in
       let whole : drop i its ≡ it ∷ drop (i + 1) its = left-on ∙ ap (λ (x : Item). x ∷ drop (i + 1) its) (sym e) in
-      sym (ap (λ (l : List Item). sets buffer at (itemsSent shown l)) whole ∙ sets-append buffer at (sent (it .words) v) (itemsSent shown (drop (i + 1) its)) ∙ rw (length-sent (it .words) v, s) refl)
+      sym (ap (λ (l : List Item). sets buffer at (itemsSent o shown l)) whole ∙ sets-append buffer at (sent o (it .words) v) (itemsSent o shown (drop (i + 1) its)) ∙ rw (length-sent o (it .words) v, s) refl)

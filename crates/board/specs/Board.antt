@@ -1,5 +1,6 @@
 -- Paper 01, "What the meter does with a frame": its five steps in their order, first that applies, and address 0. Reads go by a view, a
--- directory and the most words of a read. Paper 02, request 3: frames to the second address, by the same rule.
+-- directory and the most words of a read. Paper 02, request 3: frames to the second address, by the same rule; request 5: in the record's
+-- order, at both.
 use mathlib.Core.Path.{_≡_}
 use Prim.Native.Nat.{ℕ}
 use mathlib.Core.Bool.{Bool, true, false, _&&_, not, cond}
@@ -71,7 +72,7 @@ obeyedIn v writes m frame buffer =
     -- 3. Function neither 0x03 nor, where it may write, 0x10: error 01
     cond (not (isRead frame) && not (writes && isWrite frame)) (sentOrSilent frame (errorReply frame Function) m buffer)
     -- 4. 0x03: error 03 or 02, else data
-    (cond (isRead frame) (sentOrSilent frame (readReply v (shownOf m) frame) m buffer)
+    (cond (isRead frame) (sentOrSilent frame (readReply v (m .given .order) (shownOf m) frame) m buffer)
     -- 5. 0x10: error 03 or 02, else the group is stored and echoed. Only a stored write alters the record
     (sentOrSilent frame (writeReply frame (writtenOf m frame .verdict)) (writtenOf m frame .meter) buffer))
 

@@ -29,6 +29,7 @@ pub use meter::samples::Powers;
 pub use meter::samples::Sample;
 pub use ratio::Ratios;
 pub use refusal::Refusal;
+pub use words::Order;
 
 // What a frame is answered with.
 pub enum Reply {

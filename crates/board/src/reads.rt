@@ -25,8 +25,8 @@ pub(crate) fn read(tenant: bool, m: Meter, frame: &[u8], buffer: &mut [u8]) -> u
     requires { ⌜ meterOk m ≡ true ⌝ }
     requires { ⌜ (2 ≤ length (now frame)) × (functionOf (now frame) < 0x80) ⌝ }
     requires { ⌜ 256 ≤ length (now buffer) ⌝ }
-    ensures { λ r. ⌜ r ≡ length (readReply (viewFor own tenant) (shownOf m) (now (frame .entry))) ⌝ }
-    ensures { λ _. ⌜ now (buffer .exit) ≡ sets (now (buffer .entry)) 0 (readReply (viewFor own tenant) (shownOf m) (now (frame .entry))) ⌝ }
+    ensures { λ r. ⌜ r ≡ length (readReply (viewFor own tenant) (m .given .order) (shownOf m) (now (frame .entry))) ⌝ }
+    ensures { λ _. ⌜ now (buffer .exit) ≡ sets (now (buffer .entry)) 0 (readReply (viewFor own tenant) (m .given .order) (shownOf m) (now (frame .entry))) ⌝ }
 {
     with_table(&table::TABLE, reach_for(tenant), m, frame, buffer)
 }
@@ -48,8 +48,8 @@ fn with_table(table: &[u16], reach: Reach, m: Meter, frame: &[u8], buffer: &mut 
     requires { ⌜ meterOk m ≡ true ⌝ }
     requires { ⌜ (2 ≤ length (now frame)) × (functionOf (now frame) < 0x80) ⌝ }
     requires { ⌜ 256 ≤ length (now buffer) ⌝ }
-    ensures { λ r. ⌜ r ≡ length (readReply (viewOf (now (table .entry)) reach) (shownOf m) (now (frame .entry))) ⌝ }
-    ensures { λ _. ⌜ now (buffer .exit) ≡ sets (now (buffer .entry)) 0 (readReply (viewOf (now (table .entry)) reach) (shownOf m) (now (frame .entry))) ⌝ }
+    ensures { λ r. ⌜ r ≡ length (readReply (viewOf (now (table .entry)) reach) (m .given .order) (shownOf m) (now (frame .entry))) ⌝ }
+    ensures { λ _. ⌜ now (buffer .exit) ≡ sets (now (buffer .entry)) 0 (readReply (viewOf (now (table .entry)) reach) (m .given .order) (shownOf m) (now (frame .entry))) ⌝ }
 {
     match modbus::read_in(table, reach, frame) {
         Span::Error(code) => modbus::put_error(frame, code, buffer),
@@ -66,8 +66,8 @@ fn put_data(asked: &[u16], m: Meter, frame: &[u8], buffer: &mut [u8]) -> usize
     requires { ⌜ meterOk m ≡ true ⌝ }
     requires { ⌜ (length (now frame) ≡ 8) × (wordsOf (items (now asked)) ≡ wordNumber (now frame)) ⌝ }
     requires { ⌜ (5 + 2 * wordNumber (now frame) ≤ 256) × (256 ≤ length (now buffer)) ⌝ }
-    ensures { λ r. ⌜ r ≡ length (dataReply (now (frame .entry)) (itemsSent (shownOf m) (items (now (asked .entry))))) ⌝ }
-    ensures { λ _. ⌜ now (buffer .exit) ≡ sets (now (buffer .entry)) 0 (dataReply (now (frame .entry)) (itemsSent (shownOf m) (items (now (asked .entry))))) ⌝ }
+    ensures { λ r. ⌜ r ≡ length (dataReply (now (frame .entry)) (itemsSent (m .given .order) (shownOf m) (items (now (asked .entry))))) ⌝ }
+    ensures { λ _. ⌜ now (buffer .exit) ≡ sets (now (buffer .entry)) 0 (dataReply (now (frame .entry)) (itemsSent (m .given .order) (shownOf m) (items (now (asked .entry))))) ⌝ }
 {
     buffer[0] = frame[0];
     buffer[1] = frame[1];
@@ -83,8 +83,10 @@ fn put_items(asked: &[u16], m: Meter, buffer: &mut [u8]) -> usize
     requires { ⌜ meterOk m ≡ true ⌝ }
     requires { ⌜ 3 + 2 * wordsOf (items (now asked)) ≤ length (now buffer) ⌝ }
     ensures { λ r. ⌜ r ≡ 3 + 2 * wordsOf (items (now (asked .entry))) ⌝ }
-    ensures { λ _. ⌜ now (buffer .exit) ≡ sets (now (buffer .entry)) 3 (itemsSent (shownOf m) (items (now (asked .entry)))) ⌝ }
+    ensures { λ _. ⌜ now (buffer .exit) ≡ sets (now (buffer .entry)) 3 (itemsSent (m .given .order) (shownOf m) (items (now (asked .entry)))) ⌝ }
 {
+    let given = m.given;
+    let order = given.order;
     let count = asked.len() / directory::NUMBERS_PER_ITEM;
     let mut at = modbus::DATA_HEAD;
     let mut i: usize = 0;
@@ -94,6 +96,7 @@ fn put_items(asked: &[u16], m: Meter, buffer: &mut [u8]) -> usize
             buffer,
             at,
             it.words as usize,
+            order,
             registers::shown(m, it.quantity),
         );
         at += 2 * it.words as usize;

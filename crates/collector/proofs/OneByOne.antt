@@ -33,6 +33,7 @@ use Rattle.reading.specs.Cells.{cellOf, readBack}
 use Rattle.reading.proofs.Cells.{Back, reading-back}
 use Rattle.collector.specs.declared.whole.Whole.{Whole}
 use Rattle.collector.specs.declared.whole.Whole.the-variants.{Items, Error, Refused}
+use Rattle.collector.specs.declared.Nameplate.{Nameplate}
 use Rattle.collector.specs.Collector.{collectorIn}
 use Rattle.collector.specs.When.{Fits, askedBy, itemAt, valueIn, GivesCode, ReplyGives}
 use Rattle.collector.specs.Whole.{wholeTold, inTurn, isThirteen, anyThirteen, Rows, keptBy, filledBy, wholeIn, WholeGives, Short, SomeImpossible, AllRead, WholeWhen, CellsOf, OneByOne}
@@ -63,12 +64,15 @@ tells-13 t it v = by (thirteen it v) refl
     by true e = ap isThirteen (impossible t it v e)
     by false e = ap isThirteen (possible t it v e)
 
-module _ (v : View) (good : T (passes v)) (request reply : List ℕ) (r : Ratios) (values kinds : List ℕ) where
+module _ (v : View) (good : T (passes v)) (request reply : List ℕ) (plate : Nameplate) (values kinds : List ℕ) where
+  abbrev r : Ratios
+  r = plate .ratios
+
   abbrev ask : ℕ → Answer
-  ask = collectorIn v request reply r
+  ask = collectorIn v request reply plate
 
   abbrev given : Rows
-  given = wholeIn v request reply r values kinds
+  given = wholeIn v request reply plate values kinds
 
   -- ---- data
 
@@ -80,17 +84,17 @@ module _ (v : View) (good : T (passes v)) (request reply : List ℕ) (r : Ratios
     answers = inTurn count ask
 
     to-data : given ≡ filledBy answers values kinds
-    to-data = whole-data v request reply r values kinds (askedBy v f .first) count (held v good request reply r f)
+    to-data = whole-data v request reply plate values kinds (askedBy v f .first) count (held v good request reply r f)
 
     long : length answers ≡ count
     long = turns-length count ask
 
     -- the reading of an item
-    reads : (index : ℕ) → index < count → ask index ≡ readingOf (tOf r) (itemAt v (askedBy v f) index) (valueIn v (askedBy v f) reply index)
-    reads index b = when.to-reading v good request reply r index (record { fits = f; below = b })
+    reads : (index : ℕ) → index < count → ask index ≡ readingOf (tOf r) (itemAt v (askedBy v f) index) (valueIn v (plate .order) (askedBy v f) reply index)
+    reads index b = when.to-reading v good request reply plate index (record { fits = f; below = b })
 
-    thirteen-at : (index : ℕ) → index < count → isThirteen (ask index) ≡ thirteen (itemAt v (askedBy v f) index) (valueIn v (askedBy v f) reply index)
-    thirteen-at index b = ap isThirteen (reads index b) ∙ tells-13 (tOf r) (itemAt v (askedBy v f) index) (valueIn v (askedBy v f) reply index)
+    thirteen-at : (index : ℕ) → index < count → isThirteen (ask index) ≡ thirteen (itemAt v (askedBy v f) index) (valueIn v (plate .order) (askedBy v f) reply index)
+    thirteen-at index b = ap isThirteen (reads index b) ∙ tells-13 (tOf r) (itemAt v (askedBy v f) index) (valueIn v (plate .order) (askedBy v f) reply index)
 
     -- the rows as the tests see them
     as-short : (length values < count) ⊎ (length kinds < count) → short answers values kinds ≡ true
@@ -104,18 +108,18 @@ module _ (v : View) (good : T (passes v)) (request reply : List ℕ) (r : Ratios
 
   data Refuses : Refusal → Type 0 where
     by-row : {reason : Refusal} → Row v good request reply r reason → Refuses reason
-    row-13 : SomeImpossible v request reply r values kinds → Refuses ValueImpossible
-    row-15 : Short v request reply r values kinds → Refuses RowShort
+    row-13 : SomeImpossible v request reply plate values kinds → Refuses ValueImpossible
+    row-15 : Short v request reply plate values kinds → Refuses RowShort
 
   refused-whole : {reason : Refusal} → Refuses reason → given ≡ keptBy (Refused reason) values kinds
-  refused-whole (by-row w) = whole-refused v request reply r values kinds _ (refused v good request reply r w)
+  refused-whole (by-row w) = whole-refused v request reply plate values kinds _ (refused v good request reply r w)
   refused-whole (row-13 h) =
       let f = h .roomy .fits in
       to-data f ∙ refused-kept (answers f) values kinds (as-roomy f (h .roomy .values-room) (h .roomy .kinds-room)) (any-at (count f) ask (h .index) (h .below) (thirteen-at f (h .index) (h .below) ∙ h .value))
   refused-whole (row-15 h) = to-data (h .fits) ∙ short-kept (answers (h .fits)) values kinds (as-short (h .fits) (h .short))
 
   coded-whole : (code : ErrorCode) → GivesCode v request reply r (errorNumber code) → given ≡ keptBy (Error code) values kinds
-  coded-whole code e = whole-coded v request reply r values kinds code (coded v good request reply r code e)
+  coded-whole code e = whole-coded v request reply plate values kinds code (coded v good request reply r code e)
 
   -- all are read: the readings, and the rows with them
   record Readings (n : ℕ) : Type 0 where
@@ -129,9 +133,9 @@ module _ (v : View) (good : T (passes v)) (request reply : List ℕ) (r : Ratios
 
   -- an item that is not refused with 13 is read
   unrefused : (f : Fits v request reply r) (i : ℕ) → i < count f → isThirteen (ask i) ≡ false → (q : Quantity) × (ask i ≡ answer.Reading q)
-  unrefused f i b h = (_, reads f i b ∙ possible (tOf r) (itemAt v (askedBy v f) i) (valueIn v (askedBy v f) reply i) (sym (thirteen-at f i b) ∙ h))
+  unrefused f i b h = (_, reads f i b ∙ possible (tOf r) (itemAt v (askedBy v f) i) (valueIn v (plate .order) (askedBy v f) reply i) (sym (thirteen-at f i b) ∙ h))
 
-  at-count : (f : Fits v request reply r) → count f ≤ length values → count f ≤ length kinds → ((i : ℕ) → i < count f → thirteen (itemAt v (askedBy v f) i) (valueIn v (askedBy v f) reply i) ≡ false) → Readings (count f)
+  at-count : (f : Fits v request reply r) → count f ≤ length values → count f ≤ length kinds → ((i : ℕ) → i < count f → thirteen (itemAt v (askedBy v f) i) (valueIn v (plate .order) (askedBy v f) reply i) ≡ false) → Readings (count f)
   at-count f a b none = record {
     fits = f;
     count-is = refl;
@@ -155,11 +159,11 @@ module _ (v : View) (good : T (passes v)) (request reply : List ℕ) (r : Ratios
       filled : ℕ → List Quantity → Rows
       filled n qs = record { answer = Items n; values = sets values 0 (map cellOf qs); kinds = sets kinds 0 (map kindOf qs) }
 
-  all-read : (n : ℕ) → AllRead v request reply r values kinds n → Readings n
+  all-read : (n : ℕ) → AllRead v request reply plate values kinds n → Readings n
   all-read n a = subst Readings (a .count) (at-count (a .roomy .fits) (a .roomy .values-room) (a .roomy .kinds-room) (λ i b. a .possible i (omega (arith, b, a .count))))
 
   -- where each call gives a reading, all are read
-  pub all-given : (f : Fits v request reply r) → count f ≤ length values → count f ≤ length kinds → ((i : ℕ) → i < count f → (q : Quantity) × (ask i ≡ answer.Reading q)) → AllRead v request reply r values kinds (count f)
+  pub all-given : (f : Fits v request reply r) → count f ≤ length values → count f ≤ length kinds → ((i : ℕ) → i < count f → (q : Quantity) × (ask i ≡ answer.Reading q)) → AllRead v request reply plate values kinds (count f)
   all-given f a b each = record {
     roomy = record { fits = f; values-room = a; kinds-room = b };
     count = refl;
@@ -169,12 +173,12 @@ module _ (v : View) (good : T (passes v)) (request reply : List ℕ) (r : Ratios
   -- ---- every call comes to one of them
 
   abbrev All : Type 0
-  All = (n : ℕ) × AllRead v request reply r values kinds n
+  All = (n : ℕ) × AllRead v request reply plate values kinds n
 
   abbrev Outcome : Type 0
   Outcome = Due (wholeTold (given .answer)) Refuses (GivesCode v request reply r) All
 
-  read-told : (n : ℕ) → AllRead v request reply r values kinds n → WholeGives v request reply r values kinds (0 ∷ n ∷ [])
+  read-told : (n : ℕ) → AllRead v request reply plate values kinds n → WholeGives v request reply plate values kinds (0 ∷ n ∷ [])
   read-told n a = ap (λ (o : Rows). wholeTold (o .answer)) (all-read n a .rows)
 
   says : Says (wholeTold (given .answer)) Refuses (GivesCode v request reply r) All
@@ -205,7 +209,7 @@ module _ (v : View) (good : T (passes v)) (request reply : List ℕ) (r : Ratios
 
   -- ---- and to no two
 
-  by-number : (reason : Refusal) {Means : Type 0} → (Refuses reason → Means) → (Means → Refuses reason) → WholeGives v request reply r values kinds (refusedBy (refusalNumber reason)) ↔ Means
+  by-number : (reason : Refusal) {Means : Type 0} → (Refuses reason → Means) → (Means → Refuses reason) → WholeGives v request reply plate values kinds (refusedBy (refusalNumber reason)) ↔ Means
   by-number reason to from = (λ h. to (row-of _ _ _ _ says reason h outcome), λ w. says .refusal (from w))
 
   -- of those below 12, a row of the reply's
@@ -214,13 +218,13 @@ module _ (v : View) (good : T (passes v)) (request reply : List ℕ) (r : Ratios
   of-reply (row-13 w) h = absurd (omega (arith, h))
   of-reply (row-15 w) h = absurd (omega (arith, h))
 
-  by-reply : (reason : Refusal) → refusalNumber reason < 12 → {Means : Type 0} → (Row v good request reply r reason → Means) → (Means → Row v good request reply r reason) → WholeGives v request reply r values kinds (refusedBy (refusalNumber reason)) ↔ Means
+  by-reply : (reason : Refusal) → refusalNumber reason < 12 → {Means : Type 0} → (Row v good request reply r reason → Means) → (Means → Row v good request reply r reason) → WholeGives v request reply plate values kinds (refusedBy (refusalNumber reason)) ↔ Means
   by-reply reason small to from = by-number reason (λ w. to (of-reply w small)) (λ s. by-row (from s))
 
-  thirteenth : Refuses ValueImpossible → SomeImpossible v request reply r values kinds
+  thirteenth : Refuses ValueImpossible → SomeImpossible v request reply plate values kinds
   thirteenth (row-13 h) = h
 
-  fifteenth : Refuses RowShort → Short v request reply r values kinds
+  fifteenth : Refuses RowShort → Short v request reply plate values kinds
   fifteenth (row-15 h) = h
 
   -- the numbers of the rows: 12 is not among them
@@ -236,12 +240,12 @@ module _ (v : View) (good : T (passes v)) (request reply : List ℕ) (r : Ratios
   numbered reason (row-13 h) = inr (inr (inl refl))
   numbered reason (row-15 h) = inr (inr (inr refl))
 
-  only-read : (n : ℕ) → WholeGives v request reply r values kinds (0 ∷ n ∷ []) → AllRead v request reply r values kinds n
+  only-read : (n : ℕ) → WholeGives v request reply plate values kinds (0 ∷ n ∷ []) → AllRead v request reply plate values kinds n
   only-read n h =
       let e = else-of _ _ _ _ says (ap caseIn h) outcome in
-      subst (λ (j : ℕ). AllRead v request reply r values kinds j) (ap numberIn (sym (read-told (e .0) (e .1)) ∙ h)) (e .1)
+      subst (λ (j : ℕ). AllRead v request reply plate values kinds j) (ap numberIn (sym (read-told (e .0) (e .1)) ∙ h)) (e .1)
 
-  pub whole-when : WholeWhen v request reply r values kinds
+  pub whole-when : WholeWhen v request reply plate values kinds
   whole-when = record {
     row-3 = by-reply RatioOutOfLimits (omega arith) (three v good request reply r) row-3;
     row-7 = by-reply NotARead (omega arith) (seven v good request reply r) row-7;
@@ -258,7 +262,7 @@ module _ (v : View) (good : T (passes v)) (request reply : List ℕ) (r : Ratios
 
   -- ---- the rows
 
-  kept-values : ((n : ℕ) → WholeGives v request reply r values kinds (0 ∷ n ∷ []) → ⊥) → Outcome → (given .values ≡ values) × (given .kinds ≡ kinds)
+  kept-values : ((n : ℕ) → WholeGives v request reply plate values kinds (0 ∷ n ∷ []) → ⊥) → Outcome → (given .values ≡ values) × (given .kinds ≡ kinds)
   kept-values none (refused-as x w) = (ap (λ (o : Rows). o .values) (refused-whole w), ap (λ (o : Rows). o .kinds) (refused-whole w))
   kept-values none (error-as code e) = (ap (λ (o : Rows). o .values) (coded-whole code e), ap (λ (o : Rows). o .kinds) (coded-whole code e))
   kept-values none (else-as e) = absurd (none (e .0) (read-told (e .0) (e .1)))
@@ -271,7 +275,7 @@ module _ (v : View) (good : T (passes v)) (request reply : List ℕ) (r : Ratios
       (ap (λ (o : Rows). length (o .values)) (t .rows) ∙ length-sets values 0 (map cellOf (t .qs)), ap (λ (o : Rows). length (o .kinds)) (t .rows) ∙ length-sets kinds 0 (map kindOf (t .qs)))
 
   -- where n items are read
-  module _ (n : ℕ) (says-n : WholeGives v request reply r values kinds (0 ∷ n ∷ [])) where
+  module _ (n : ℕ) (says-n : WholeGives v request reply plate values kinds (0 ∷ n ∷ [])) where
     found : Readings n
     found = all-read n (only-read n says-n)
 
@@ -281,7 +285,7 @@ module _ (v : View) (good : T (passes v)) (request reply : List ℕ) (r : Ratios
     abbrev at : ℕ → Quantity
     at index = getD (found .qs) index (Plain 0)
 
-    cells-of : (index : ℕ) → index < n → CellsOf v request reply r values kinds index
+    cells-of : (index : ℕ) → index < n → CellsOf v request reply plate values kinds index
     cells-of index b = record {
       reading = at index;
       given = read-at n ask (found .qs) (found .read) index (Plain 0) b;
@@ -289,11 +293,11 @@ module _ (v : View) (good : T (passes v)) (request reply : List ℕ) (r : Ratios
       kind = ap (λ (o : Rows). getD (o .kinds) index 0) (found .rows) ∙ cell-in kindOf kinds (found .qs) index (omega (arith, many, found .kinds-room)) (Plain 0) (omega (arith, b, many));
     }
 
-    cells-beyond : (index : ℕ) → n ≤ index → (getD (given .values) index 0 ≡ getD values index 0) × (getD (given .kinds) index 0 ≡ getD kinds index 0) × ReplyGives v request reply r index (refusedBy 12)
+    cells-beyond : (index : ℕ) → n ≤ index → (getD (given .values) index 0 ≡ getD values index 0) × (getD (given .kinds) index 0 ≡ getD kinds index 0) × ReplyGives v request reply plate index (refusedBy 12)
     cells-beyond index b = (
       ap (λ (o : Rows). getD (o .values) index 0) (found .rows) ∙ cell-beyond cellOf values (found .qs) index (omega (arith, many, found .values-room)) (omega (arith, b, many)),
       ap (λ (o : Rows). getD (o .kinds) index 0) (found .rows) ∙ cell-beyond kindOf kinds (found .qs) index (omega (arith, many, found .kinds-room)) (omega (arith, b, many)),
-      replies-when v good request reply r index .row-12 .1 (record { fits = found .fits; past = omega (arith, b, found .count-is) }),
+      replies-when v good request reply plate index .row-12 .1 (record { fits = found .fits; past = omega (arith, b, found .count-is) }),
     )
 
     -- a reply of bytes: each reading comes back
@@ -303,13 +307,13 @@ module _ (v : View) (good : T (passes v)) (request reply : List ℕ) (r : Ratios
         let a = askedBy v f in
         let inside : index < a .count = omega (arith, b, found .count-is) in
         let narrow = ruled-narrow (v .seen) (passes-ruled v good) (a .first + index) (omega (arith, inside, legal-read v good (a .items) .inside)) in
-        reading-back (tOf r) (itemAt v a index) (valueIn v a reply index) (narrow .few) (value-fits reply bytes (itemAt v a index .words) _) (at index) (sym (reads f index inside) ∙ read-at n ask (found .qs) (found .read) index (Plain 0) b)
+        reading-back (tOf r) (itemAt v a index) (valueIn v (plate .order) a reply index) (narrow .few) (value-fits reply bytes (plate .order) (itemAt v a index .words) _) (at index) (sym (reads f index inside) ∙ read-at n ask (found .qs) (found .read) index (Plain 0) b)
 
   -- ---- as each call alone gives it
 
-  codes : (code index : ℕ) → WholeGives v request reply r values kinds (errorBy code) ↔ ReplyGives v request reply r index (errorBy code)
+  codes : (code index : ℕ) → WholeGives v request reply plate values kinds (errorBy code) ↔ ReplyGives v request reply plate index (errorBy code)
   codes code index =
-      let one = replies-when v good request reply r index .error code in
+      let one = replies-when v good request reply plate index .error code in
       (λ h. one .1 (whole-when .error code .0 h), λ h. whole-when .error code .1 (one .0 h))
 
   -- a row of the reply's is given by both
@@ -320,23 +324,23 @@ module _ (v : View) (good : T (passes v)) (request reply : List ℕ) (r : Ratios
   outside n h (inl e) = absurd (omega (arith, e, h))
   outside n h (inr e) = absurd (omega (arith, e .1, h))
 
-  to-each : (index : ℕ) (reason : Refusal) → Refuses reason → OfReply (refusalNumber reason) → ReplyGives v request reply r index (refusedBy (refusalNumber reason))
-  to-each index reason (by-row w) among = when.says v good request reply r index .refusal (when.by-row w)
+  to-each : (index : ℕ) (reason : Refusal) → Refuses reason → OfReply (refusalNumber reason) → ReplyGives v request reply plate index (refusedBy (refusalNumber reason))
+  to-each index reason (by-row w) among = when.says v good request reply plate index .refusal (when.by-row w)
   to-each index reason (row-13 w) among = outside 13 (omega arith) among
   to-each index reason (row-15 w) among = outside 15 (omega arith) among
 
-  from-each : (index : ℕ) (reason : Refusal) → when.Refuses v good request reply r index reason → OfReply (refusalNumber reason) → WholeGives v request reply r values kinds (refusedBy (refusalNumber reason))
+  from-each : (index : ℕ) (reason : Refusal) → when.Refuses v good request reply plate index reason → OfReply (refusalNumber reason) → WholeGives v request reply plate values kinds (refusedBy (refusalNumber reason))
   from-each index reason (when.by-row w) among = says .refusal (by-row w)
   from-each index reason (when.row-12 w) among = outside 12 (omega arith) among
   from-each index reason (when.row-13 w) among = outside 13 (omega arith) among
 
-  pub one-by-one : OneByOne v request reply r values kinds
+  pub one-by-one : OneByOne v request reply plate values kinds
   unfolding cells-of
   one-by-one = record {
     code = codes;
     judged = λ number index among. (
-      λ h. number-of _ _ _ _ says (λ (n : ℕ). OfReply n → ReplyGives v request reply r index (refusedBy n)) (to-each index) number h outcome among,
-      λ h. number-of _ _ _ _ (when.says v good request reply r index) (λ (n : ℕ). OfReply n → WholeGives v request reply r values kinds (refusedBy n)) (from-each index) number h (when.outcome v good request reply r index) among,
+      λ h. number-of _ _ _ _ says (λ (n : ℕ). OfReply n → ReplyGives v request reply plate index (refusedBy n)) (to-each index) number h outcome among,
+      λ h. number-of _ _ _ _ (when.says v good request reply plate index) (λ (n : ℕ). OfReply n → WholeGives v request reply plate values kinds (refusedBy n)) (from-each index) number h (when.outcome v good request reply plate index) among,
     );
     kept = λ none. kept-values none outcome;
     lengths = row-lengths outcome;

@@ -9,6 +9,7 @@ use lib.ListN.{length, getD, take, drop, length-drop}
 use lib.Seq.{getD-take, getD-drop, length-take-le}
 use borrow.Author.Tests.{eqb-true, lt-ltb, le-ltb}
 use Rattle.refusal.specs.declared.Refusal.the-variants.{IndexPastItems}
+use Rattle.words.specs.declared.Order.{Order}
 use Rattle.words.specs.Words.{valueAt}
 use Rattle.directory.specs.declared.Item.{Item}
 use Rattle.directory.specs.Item.{none}
@@ -71,14 +72,14 @@ module _ (dir : List Item) (first count : ℕ) where
 
 -- ---- what an item's words say
 
-module _ (t : ℕ) (its : List Item) (reply : List ℕ) (index : ℕ) where
+module _ (o : Order) (t : ℕ) (its : List Item) (reply : List ℕ) (index : ℕ) where
   abbrev it : Item
   it = getD its index none
 
-  pub item-past : length its ≤ index → Refused IndexPastItems ≡ itemOf t its reply index
+  pub item-past : length its ≤ index → Refused IndexPastItems ≡ itemOf o t its reply index
   unfolding itemOf
   item-past h = simp (le-ltb index (length its) h)
 
-  pub item-reads : index < length its → itemOf t its reply index ≡ readingOf t it (valueAt (it .words) reply (placeOf its index))
+  pub item-reads : index < length its → itemOf o t its reply index ≡ readingOf t it (valueAt o (it .words) reply (placeOf its index))
   unfolding itemOf
   item-reads h = simp (lt-ltb index (length its) h)

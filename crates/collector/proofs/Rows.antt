@@ -24,6 +24,7 @@ use Rattle.collector.specs.declared.Judgement.{Judgement}
 use Rattle.collector.specs.declared.Judgement.the-variants as judgement
 use Rattle.collector.specs.declared.whole.Whole.{Whole}
 use Rattle.collector.specs.declared.whole.Whole.the-variants.{Items, Error, Refused}
+use Rattle.collector.specs.declared.Nameplate.{Nameplate}
 use Rattle.collector.specs.Collector.{judgedIn, itemOf, onData, collectorIn}
 use Rattle.collector.specs.Whole.{inTurn, anyThirteen, readingsIn, Rows, keptBy, filledBy, onReply, wholeIn, Filled}
 use Rattle.collector.proofs.Places.{narrow-at, run-length}
@@ -61,35 +62,38 @@ allowed-by {x = x} {values = values} {kinds = kinds} e h = subst (λ (o : Rows).
 
 -- ---- the judgement
 
-module _ (v : View) (request reply : List ℕ) (r : Ratios) (values kinds : List ℕ) where
+module _ (v : View) (request reply : List ℕ) (plate : Nameplate) (values kinds : List ℕ) where
+  abbrev r : Ratios
+  r = plate .ratios
+
   -- how it goes on from there
   abbrev going : Judgement → Rows
-  going j = onReply j (λ first count. filledBy (inTurn count (collectorIn v request reply r)) values kinds) values kinds
+  going j = onReply j (λ first count. filledBy (inTurn count (collectorIn v request reply plate)) values kinds) values kinds
 
-  pub to-rows : wholeIn v request reply r values kinds ≡ going (judgedIn v request reply r)
+  pub to-rows : wholeIn v request reply plate values kinds ≡ going (judgedIn v request reply r)
   unfolding wholeIn
   to-rows = refl
 
-  pub whole-coded : (code : ErrorCode) → judgedIn v request reply r ≡ judgement.Error code → wholeIn v request reply r values kinds ≡ keptBy (Error code) values kinds
+  pub whole-coded : (code : ErrorCode) → judgedIn v request reply r ≡ judgement.Error code → wholeIn v request reply plate values kinds ≡ keptBy (Error code) values kinds
   whole-coded code h = to-rows ∙ ap going h
 
-  pub whole-refused : (reason : Refusal) → judgedIn v request reply r ≡ judgement.Refused reason → wholeIn v request reply r values kinds ≡ keptBy (Refused reason) values kinds
+  pub whole-refused : (reason : Refusal) → judgedIn v request reply r ≡ judgement.Refused reason → wholeIn v request reply plate values kinds ≡ keptBy (Refused reason) values kinds
   whole-refused reason h = to-rows ∙ ap going h
 
   module _ (first count : ℕ) (h : judgedIn v request reply r ≡ judgement.Items first count) where
-    pub whole-data : wholeIn v request reply r values kinds ≡ filledBy (inTurn count (collectorIn v request reply r)) values kinds
+    pub whole-data : wholeIn v request reply plate values kinds ≡ filledBy (inTurn count (collectorIn v request reply plate)) values kinds
     whole-data = to-rows ∙ ap going h
 
     -- each call is then the item's
-    pub each-item : (index : ℕ) → collectorIn v request reply r index ≡ itemOf (tOf r) (runItems (v .seen) first count) reply index
+    pub each-item : (index : ℕ) → collectorIn v request reply plate index ≡ itemOf (plate .order) (tOf r) (runItems (v .seen) first count) reply index
     unfolding collectorIn
-    each-item index = ap (λ (j : Judgement). onData v j (λ its. itemOf (tOf r) its reply index)) h
+    each-item index = ap (λ (j : Judgement). onData v j (λ its. itemOf (plate .order) (tOf r) its reply index)) h
 
-    pub whole-items : first + count ≤ length (v .seen) → wholeIn v request reply r values kinds ≡ filledBy (inTurn (length (runItems (v .seen) first count)) (itemOf (tOf r) (runItems (v .seen) first count) reply)) values kinds
+    pub whole-items : first + count ≤ length (v .seen) → wholeIn v request reply plate values kinds ≡ filledBy (inTurn (length (runItems (v .seen) first count)) (itemOf (plate .order) (tOf r) (runItems (v .seen) first count) reply)) values kinds
     whole-items inside =
         whole-data
-        ∙ ap (λ (l : List Answer). filledBy l values kinds) (turns-same count (collectorIn v request reply r) (itemOf (tOf r) (runItems (v .seen) first count) reply) (λ i b. each-item i))
-        ∙ ap (λ (n : ℕ). filledBy (inTurn n (itemOf (tOf r) (runItems (v .seen) first count) reply)) values kinds) (sym (run-length (v .seen) first count inside))
+        ∙ ap (λ (l : List Answer). filledBy l values kinds) (turns-same count (collectorIn v request reply plate) (itemOf (plate .order) (tOf r) (runItems (v .seen) first count) reply) (λ i b. each-item i))
+        ∙ ap (λ (n : ℕ). filledBy (inTurn n (itemOf (plate .order) (tOf r) (runItems (v .seen) first count) reply)) values kinds) (sym (run-length (v .seen) first count inside))
 
 -- ---- an item sends a word at the least
 

@@ -16,6 +16,7 @@ use Rattle.refusal.specs.Numbers.{refusalNumber, errorNumber, refusedBy}
 use Rattle.refusal.proofs.Distinct.{caseIn}
 use Rattle.refusal.proofs.Exactly.{Due, refused-as, error-as, else-as, Says, row-of, number-of, code-of, code-said, else-of}
 use Rattle.crc.specs.Crc.{intact}
+use Rattle.words.specs.declared.Order.{Order}
 use Rattle.words.specs.Words.{valueAt}
 use Rattle.ratio.specs.declared.Ratios.{Ratios}
 use Rattle.ratio.specs.Ratios.{ratiosOk, tOf}
@@ -39,6 +40,7 @@ use Rattle.reading.specs.Readings.{thirteen, quantitiesOf, readingOf}
 use Rattle.reading.proofs.Cells.{quantityIn}
 use Rattle.collector.specs.declared.Judgement.{Judgement}
 use Rattle.collector.specs.declared.Judgement.the-variants as judgement
+use Rattle.collector.specs.declared.Nameplate.{Nameplate}
 use Rattle.collector.specs.Collector.{heard, lengthWrong, isReadError, foreign, thirdOf, codeOf, errorOf, misfit, replyOf, judgedIn, placeOf, itemOf, onData, collectorIn}
 use Rattle.collector.specs.Whole.{isThirteen}
 use Rattle.collector.specs.When.{Asks, Asked, Sound, Fits, askedBy, Holds, itemAt, valueIn, errorMisfit, ForeignReply, Misfits, Past, Impossible, ReplyGives, GivesCode, Reads, RepliesWhen, NotMisread}
@@ -83,19 +85,19 @@ module _ (t : ℕ) (it : Item) (v : ℕ) where
   possible h = rw h refl
 
 -- an item that is not refused with 13 is read
-pub item-possible : (t : ℕ) (its : List Item) (reply : List ℕ) (index : ℕ) → index < length its → isThirteen (itemOf t its reply index) ≡ false → (q : Quantity) × (itemOf t its reply index ≡ Reading q)
-item-possible t its reply index below h = by (thirteen it value) refl
+pub item-possible : (o : Order) (t : ℕ) (its : List Item) (reply : List ℕ) (index : ℕ) → index < length its → isThirteen (itemOf o t its reply index) ≡ false → (q : Quantity) × (itemOf o t its reply index ≡ Reading q)
+item-possible o t its reply index below h = by (thirteen it value) refl
   where
     it : Item
     it = getD its index none
 
     value : ℕ
-    value = valueAt (it .words) reply (placeOf its index)
+    value = valueAt o (it .words) reply (placeOf its index)
 
-    is : itemOf t its reply index ≡ readingOf t it value
-    is = item-reads t its reply index below
+    is : itemOf o t its reply index ≡ readingOf t it value
+    is = item-reads o t its reply index below
 
-    by : (b : Bool) → thirteen it value ≡ b → (q : Quantity) × (itemOf t its reply index ≡ Reading q)
+    by : (b : Bool) → thirteen it value ≡ b → (q : Quantity) × (itemOf o t its reply index ≡ Reading q)
     by true e = absurd (false≢true (sym h ∙ ap isThirteen (is ∙ impossible t it value e)))
     by false e = (_, is ∙ possible t it value e)
 
@@ -240,50 +242,53 @@ module _ (v : View) (good : T (passes v)) where
 
   -- ---- an item of it
 
-  module _ (request reply : List ℕ) (r : Ratios) (index : ℕ) where
+  module _ (request reply : List ℕ) (plate : Nameplate) (index : ℕ) where
+    abbrev r : Ratios
+    r = plate .ratios
+
     abbrev given : Answer
-    given = collectorIn v request reply r index
+    given = collectorIn v request reply plate index
 
     -- what is given once request and reply are judged
     abbrev on : Judgement → Answer
-    on judgement = onData v judgement (λ its. itemOf (tOf r) its reply index)
+    on judgement = onData v judgement (λ its. itemOf (plate .order) (tOf r) its reply index)
 
     pub to-judged : given ≡ on (judgedIn v request reply r)
     unfolding collectorIn
     to-judged = refl
 
-    pub to-reading : (h : Holds v request reply r index) → given ≡ readingOf (tOf r) (itemAt v (h .fits .sound .asked .asks) index) (valueIn v (h .fits .sound .asked .asks) reply index)
+    pub to-reading : (h : Holds v request reply r index) → given ≡ readingOf (tOf r) (itemAt v (h .fits .sound .asked .asks) index) (valueIn v (plate .order) (h .fits .sound .asked .asks) reply index)
     to-reading h =
         let a = h .fits .sound .asked .asks in
         let its = runItems (v .seen) (a .first) (a .count) in
         to-judged
         ∙ ap on (held request reply r (h .fits))
-        ∙ item-reads (tOf r) its reply index (omega (arith, h .below, run-length (v .seen) (a .first) (a .count) (legal-read v good (a .items) .inside)))
-        ∙ ap (λ (it : Item). readingOf (tOf r) it (valueAt (it .words) reply (placeOf its index))) (run-at (v .seen) (a .first) (a .count) index (h .below))
+        ∙ item-reads (plate .order) (tOf r) its reply index (omega (arith, h .below, run-length (v .seen) (a .first) (a .count) (legal-read v good (a .items) .inside)))
+        ∙ ap (λ (it : Item). readingOf (tOf r) it (valueAt (plate .order) (it .words) reply (placeOf its index))) (run-at (v .seen) (a .first) (a .count) index (h .below))
 
     -- the rows of an item's call
     pub data Refuses : Refusal → Type 0 where
       by-row : {reason : Refusal} → Row request reply r reason → Refuses reason
       row-12 : Past v request reply r index → Refuses IndexPastItems
-      row-13 : Impossible v request reply r index → Refuses ValueImpossible
+      row-13 : Impossible v request reply plate index → Refuses ValueImpossible
 
     pub item-refused : {reason : Refusal} → Refuses reason → given ≡ Refused reason
     item-refused (by-row w) = to-judged ∙ ap on (refused request reply r w)
     item-refused (row-12 h) =
         let a = h .fits .sound .asked .asks in
-        to-judged ∙ ap on (held request reply r (h .fits)) ∙ sym (item-past _ _ _ _ (omega (arith, h .past, run-length (v .seen) (a .first) (a .count) (legal-read v good (a .items) .inside))))
+        to-judged ∙ ap on (held request reply r (h .fits)) ∙ sym (item-past _ _ _ _ _ (omega (arith, h .past, run-length (v .seen) (a .first) (a .count) (legal-read v good (a .items) .inside))))
     item-refused (row-13 h) = to-reading (h .holds) ∙ impossible _ _ _ (h .value)
 
     pub item-coded : (code : ErrorCode) → GivesCode v request reply r (errorNumber code) → given ≡ Error code
     item-coded code h = to-judged ∙ ap on (coded request reply r code h)
 
-    pub item-read : (q : Quantity) → Reads v request reply r index q → given ≡ Reading q
+    pub item-read : (q : Quantity) → Reads v request reply plate index q → given ≡ Reading q
     item-read q h = to-reading (h .holds) ∙ h .reading
 
     -- ---- every call comes to one of them
 
     abbrev Some : Type 0
-    Some = (q : Quantity) × Reads v request reply r index q
+    Some = (q : Quantity) × Reads v request reply plate index q
 
     abbrev Outcome : Type 0
     Outcome = Due (told given) Refuses (GivesCode v request reply r) Some
@@ -293,12 +298,12 @@ module _ (v : View) (good : T (passes v)) where
 
     -- 13, or the reading
     at-item : (h : Holds v request reply r index) → Outcome
-    at-item h = by (thirteen (itemAt v a index) (valueIn v a reply index)) refl
+    at-item h = by (thirteen (itemAt v a index) (valueIn v (plate .order) a reply index)) refl
       where
         a : Asks v request
         a = h .fits .sound .asked .asks
 
-        by : (t : Bool) → thirteen (itemAt v a index) (valueIn v a reply index) ≡ t → Outcome
+        by : (t : Bool) → thirteen (itemAt v a index) (valueIn v (plate .order) a reply index) ≡ t → Outcome
         by true e = refused-as ValueImpossible (row-13 (record { holds = h; value = e }))
         by false e = else-as (_, record { holds = h; reading = possible _ _ _ e })
 
@@ -323,7 +328,7 @@ module _ (v : View) (good : T (passes v)) where
 
     -- ---- and to no two
 
-    by-number : (reason : Refusal) {Means : Type 0} → (Refuses reason → Means) → (Means → Refuses reason) → ReplyGives v request reply r index (refusedBy (refusalNumber reason)) ↔ Means
+    by-number : (reason : Refusal) {Means : Type 0} → (Refuses reason → Means) → (Means → Refuses reason) → ReplyGives v request reply plate index (refusedBy (refusalNumber reason)) ↔ Means
     by-number reason to from = (λ h. to (row-of _ _ _ _ says reason h outcome), λ w. says .refusal (from w))
 
     -- of those below 12, a row of the reply's
@@ -332,13 +337,13 @@ module _ (v : View) (good : T (passes v)) where
     of-reply (row-12 w) h = absurd (omega (arith, h))
     of-reply (row-13 w) h = absurd (omega (arith, h))
 
-    by-reply : (reason : Refusal) → refusalNumber reason < 12 → {Means : Type 0} → (Row request reply r reason → Means) → (Means → Row request reply r reason) → ReplyGives v request reply r index (refusedBy (refusalNumber reason)) ↔ Means
+    by-reply : (reason : Refusal) → refusalNumber reason < 12 → {Means : Type 0} → (Row request reply r reason → Means) → (Means → Row request reply r reason) → ReplyGives v request reply plate index (refusedBy (refusalNumber reason)) ↔ Means
     by-reply reason small to from = by-number reason (λ w. to (of-reply w small)) (λ s. by-row (from s))
 
     twelve : Refuses IndexPastItems → Past v request reply r index
     twelve (row-12 h) = h
 
-    thirteenth : Refuses ValueImpossible → Impossible v request reply r index
+    thirteenth : Refuses ValueImpossible → Impossible v request reply plate index
     thirteenth (row-13 h) = h
 
     -- the numbers of the rows
@@ -354,12 +359,12 @@ module _ (v : View) (good : T (passes v)) where
     numbered reason (row-12 h) = inr (omega arith, omega arith)
     numbered reason (row-13 h) = inr (omega arith, omega arith)
 
-    only-reading : (q : Quantity) → given ≡ Reading q → Reads v request reply r index q
+    only-reading : (q : Quantity) → given ≡ Reading q → Reads v request reply plate index q
     only-reading q h =
         let e = else-of _ _ _ _ says (ap (λ (a : Answer). caseIn (told a)) h) outcome in
-        subst (λ (c : Quantity). Reads v request reply r index c) (ap (quantityIn q) (sym (item-read (e .0) (e .1)) ∙ h)) (e .1)
+        subst (λ (c : Quantity). Reads v request reply plate index c) (ap (quantityIn q) (sym (item-read (e .0) (e .1)) ∙ h)) (e .1)
 
-    pub replies-when : RepliesWhen v request reply r index
+    pub replies-when : RepliesWhen v request reply plate index
     replies-when = record {
       row-3 = by-reply RatioOutOfLimits (omega arith) (three request reply r) row-3;
       row-7 = by-reply NotARead (omega arith) (seven request reply r) row-7;
@@ -381,9 +386,9 @@ same-address request reply h =
     let n = neither (not (eqb (addressOf reply) (addressOf request))) _ h in
     eqb-true (addressOf reply) (addressOf request) (not-false _ (n .0))
 
-module _ (v : View) (good : T (passes v)) (request reply : List ℕ) (r : Ratios) (index : ℕ) where
-  pub not-misread : NotMisread v request reply r index
+module _ (v : View) (good : T (passes v)) (request reply : List ℕ) (plate : Nameplate) (index : ℕ) where
+  pub not-misread : NotMisread v request reply plate index
   not-misread = record {
-    reading = λ q h. let f = replies-when v good request reply r index .reading q .0 h .holds .fits in (f .sound .whole, same-address request reply (f .sound .own), fitting request reply (f .fits));
-    error = λ code h. let s = replies-when v good request reply r index .error (errorNumber code) .0 (ap told h) .sound in (s .whole, same-address request reply (s .own));
+    reading = λ q h. let f = replies-when v good request reply plate index .reading q .0 h .holds .fits in (f .sound .whole, same-address request reply (f .sound .own), fitting request reply (f .fits));
+    error = λ code h. let s = replies-when v good request reply plate index .error (errorNumber code) .0 (ap told h) .sound in (s .whole, same-address request reply (s .own));
   }

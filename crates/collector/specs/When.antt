@@ -9,6 +9,7 @@ use lib.ListN.{length, getD}
 use Rattle.refusal.specs.declared.ErrorCode.{ErrorCode}
 use Rattle.refusal.specs.Numbers.{refusedBy, errorBy}
 use Rattle.crc.specs.Crc.{intact}
+use Rattle.words.specs.declared.Order.{Order}
 use Rattle.words.specs.Words.{valueAt}
 use Rattle.ratio.specs.declared.Ratios.{Ratios}
 use Rattle.ratio.specs.Ratios.{ratiosOk, tOf}
@@ -26,6 +27,7 @@ use Rattle.reading.specs.declared.Answer.{Answer}
 use Rattle.reading.specs.declared.Answer.the-variants.{Reading, Error}
 use Rattle.reading.specs.Told.{told}
 use Rattle.reading.specs.Readings.{thirteen, readingOf}
+use Rattle.collector.specs.declared.Nameplate.{Nameplate}
 use Rattle.collector.specs.Collector.{heard, lengthWrong, isReadError, foreign, thirdOf, misfit, placeOf, collectorIn}
 
 -- 11, of 0x83: length not 5 or code not 1 to 3
@@ -73,9 +75,10 @@ module _ (v : View) where
   abbrev pub itemAt : {request : List ℕ} → Asks request → ℕ → Item
   itemAt asks index = getD (v .seen) (asks .first + index) none
 
-  -- the value of its words in the reply
-  abbrev pub valueIn : {request : List ℕ} → Asks request → List ℕ → ℕ → ℕ
-  valueIn asks reply index = valueAt (itemAt asks index .words) reply (placeOf (runItems (v .seen) (asks .first) (asks .count)) index)
+  -- the value of its words in the reply, in the order told
+  abbrev pub valueIn : {request : List ℕ} → Order → Asks request → List ℕ → ℕ → ℕ
+  valueIn o asks reply index =
+      valueAt o (itemAt asks index .words) reply (placeOf (runItems (v .seen) (asks .first) (asks .count)) index)
 
   -- 10: reply address differs, or function neither 0x03 nor 0x83
   abbrev pub ForeignReply : List ℕ → List ℕ → Ratios → Type 0
@@ -94,9 +97,9 @@ module _ (v : View) where
     pub past : askedBy fits .count ≤ index
 
   -- 13: value impossible
-  pub record Impossible (request reply : List ℕ) (r : Ratios) (index : ℕ) : Type 0 where
-    pub holds : Holds request reply r index
-    pub value : thirteen (itemAt (askedBy (holds .fits)) index) (valueIn (askedBy (holds .fits)) reply index) ≡ true
+  pub record Impossible (request reply : List ℕ) (plate : Nameplate) (index : ℕ) : Type 0 where
+    pub holds : Holds request reply (plate .ratios) index
+    pub value : thirteen (itemAt (askedBy (holds .fits)) index) (valueIn (plate .order) (askedBy (holds .fits)) reply index) ≡ true
 
   -- the meter's error code, given after 11 whatever the index
   pub record GivesCode (request reply : List ℕ) (r : Ratios) (code : ℕ) : Type 0 where
@@ -108,16 +111,22 @@ module _ (v : View) where
     pub most : code ≤ 3
 
   -- the reading of the item asked
-  pub record Reads (request reply : List ℕ) (r : Ratios) (index : ℕ) (q : Quantity) : Type 0 where
-    pub holds : Holds request reply r index
-    pub reading : readingOf (tOf r) (itemAt (askedBy (holds .fits)) index) (valueIn (askedBy (holds .fits)) reply index) ≡ Reading q
+  pub record Reads (request reply : List ℕ) (plate : Nameplate) (index : ℕ) (q : Quantity) : Type 0 where
+    pub holds : Holds request reply (plate .ratios) index
+    pub reading :
+        readingOf (tOf (plate .ratios)) (itemAt (askedBy (holds .fits)) index)
+        (valueIn (plate .order) (askedBy (holds .fits)) reply index) ≡ Reading q
 
-  -- ---- a reply to a request, of which one item is asked, told some ratios
+  -- ---- a reply to a request, of which one item is asked, told a nameplate
 
-  module _ (request reply : List ℕ) (r : Ratios) (index : ℕ) where
+  module _ (request reply : List ℕ) (plate : Nameplate) (index : ℕ) where
+    -- the ratios on it
+    abbrev r : Ratios
+    r = plate .ratios
+
     -- what the collector gives
     abbrev given : Answer
-    given = collectorIn v request reply r index
+    given = collectorIn v request reply plate index
 
     -- the same in the paper's numbers
     abbrev pub ReplyGives : List ℕ → Type 0
@@ -133,10 +142,10 @@ module _ (v : View) where
       pub row-10 : ReplyGives (refusedBy 10) ↔ ForeignReply request reply r
       pub row-11 : ReplyGives (refusedBy 11) ↔ Misfits request reply r
       pub row-12 : ReplyGives (refusedBy 12) ↔ Past request reply r index
-      pub row-13 : ReplyGives (refusedBy 13) ↔ Impossible request reply r index
+      pub row-13 : ReplyGives (refusedBy 13) ↔ Impossible request reply plate index
       pub only : (n : ℕ) → ReplyGives (refusedBy n) → (n ≡ 3) ⊎ ((7 ≤ n) × (n ≤ 13))
       pub error : (code : ℕ) → ReplyGives (errorBy code) ↔ GivesCode request reply r code
-      pub reading : (q : Quantity) → (given ≡ Reading q) ↔ Reads request reply r index q
+      pub reading : (q : Quantity) → (given ≡ Reading q) ↔ Reads request reply plate index q
 
     -- STATEMENT: nothing is read out of a reply whose CRC is wrong, whose address is another's, or whose words are not as many as were
     -- asked

@@ -20,6 +20,7 @@ use Rattle.reading.specs.declared.Answer.the-variants as answer
 use Rattle.reading.specs.Told.{kindOf}
 use Rattle.reading.specs.Readings.{thirteen}
 use Rattle.reading.specs.Cells.{cellOf, readBack}
+use Rattle.collector.specs.declared.Nameplate.{Nameplate}
 use Rattle.collector.specs.declared.Judgement.{Judgement}
 use Rattle.collector.specs.declared.Judgement.the-variants as judgement
 use Rattle.collector.specs.declared.whole.Whole.{Whole}
@@ -86,15 +87,15 @@ onReply (judgement.Error code) go values kinds = keptBy (Error code) values kind
 onReply (judgement.Refused reason) go values kinds = keptBy (Refused reason) values kinds
 
 -- what the call gives and fills, over a view
-unfoldable pub wholeIn : View → List ℕ → List ℕ → Ratios → List ℕ → List ℕ → Rows
-wholeIn v request reply r values kinds =
-    onReply (judgedIn v request reply r)
-    (λ first count. filledBy (inTurn count (collectorIn v request reply r)) values kinds)
+unfoldable pub wholeIn : View → List ℕ → List ℕ → Nameplate → List ℕ → List ℕ → Rows
+wholeIn v request reply plate values kinds =
+    onReply (judgedIn v request reply (plate .ratios))
+    (λ first count. filledBy (inTurn count (collectorIn v request reply plate)) values kinds)
     values kinds
 
 -- of a meter with paper 01's own directory
-abbrev pub wholeOf : List ℕ → List ℕ → Ratios → List ℕ → List ℕ → Rows
-wholeOf request reply r values kinds = wholeIn own request reply r values kinds
+abbrev pub wholeOf : List ℕ → List ℕ → Nameplate → List ℕ → List ℕ → Rows
+wholeOf request reply plate values kinds = wholeIn own request reply plate values kinds
 
 -- all that a contract allows: the answer and both rows are those of the definition
 pub record Filled (defined : Rows) (x : Whole) (values kinds : List ℕ) : Type 0 where
@@ -102,12 +103,20 @@ pub record Filled (defined : Rows) (x : Whole) (values kinds : List ℕ) : Type 
   pub cells : values ≡ defined .values
   pub numbers : kinds ≡ defined .kinds
 
--- ---- over a view, of a request and its reply, told some ratios, and two rows
+-- ---- over a view, of a request and its reply, told a nameplate, and two rows
 
-module _ (v : View) (request reply : List ℕ) (r : Ratios) (values kinds : List ℕ) where
+module _ (v : View) (request reply : List ℕ) (plate : Nameplate) (values kinds : List ℕ) where
+  -- the ratios on it
+  abbrev r : Ratios
+  r = plate .ratios
+
   -- what the call gives and fills
   abbrev pub whole : Rows
-  whole = wholeIn v request reply r values kinds
+  whole = wholeIn v request reply plate values kinds
+
+  -- the value of an item's words
+  abbrev valued : (fits : Fits v request reply r) → ℕ → ℕ
+  valued fits index = valueIn v (plate .order) (askedBy v fits) reply index
 
   -- its answer in the paper's numbers
   abbrev pub WholeGives : List ℕ → Type 0
@@ -129,7 +138,7 @@ module _ (v : View) (request reply : List ℕ) (r : Ratios) (values kinds : List
     pub roomy : Roomy
     pub index : ℕ
     pub below : index < askedBy v (roomy .fits) .count
-    pub value : thirteen (itemAt v (askedBy v (roomy .fits)) index) (valueIn v (askedBy v (roomy .fits)) reply index) ≡ true
+    pub value : thirteen (itemAt v (askedBy v (roomy .fits)) index) (valued (roomy .fits) index) ≡ true
 
   -- and at none of them
   pub record AllRead (n : ℕ) : Type 0 where
@@ -137,7 +146,7 @@ module _ (v : View) (request reply : List ℕ) (r : Ratios) (values kinds : List
     pub count : askedBy v (roomy .fits) .count ≡ n
     pub possible :
         (index : ℕ) → index < n →
-        thirteen (itemAt v (askedBy v (roomy .fits)) index) (valueIn v (askedBy v (roomy .fits)) reply index) ≡ false
+        thirteen (itemAt v (askedBy v (roomy .fits)) index) (valued (roomy .fits) index) ≡ false
 
   -- STATEMENT: when each refusal is given, by its number and in the request's order, first that applies, and no other number: 12 cannot
   -- occur; when each error code; when the rows are filled
@@ -157,7 +166,7 @@ module _ (v : View) (request reply : List ℕ) (r : Ratios) (values kinds : List
   -- what stands in the cells of an index: value and kind of the reading that its call gives
   pub record CellsOf (index : ℕ) : Type 0 where
     pub reading : Quantity
-    pub given : collectorIn v request reply r index ≡ answer.Reading reading
+    pub given : collectorIn v request reply plate index ≡ answer.Reading reading
     pub value : getD (whole .values) index 0 ≡ cellOf reading
     pub kind : getD (whole .kinds) index 0 ≡ kindOf reading
 
@@ -165,20 +174,20 @@ module _ (v : View) (request reply : List ℕ) (r : Ratios) (values kinds : List
   -- the first n cells are the readings, the cells beyond stay, and n is the first index that is refused with 12. No reading is lost:
   -- of a reply of bytes, told the ratios, kind and value give each reading back, the value being one of 64 bits
   pub record OneByOne : Type 0 where
-    pub code : (code index : ℕ) → WholeGives (errorBy code) ↔ ReplyGives v request reply r index (errorBy code)
+    pub code : (code index : ℕ) → WholeGives (errorBy code) ↔ ReplyGives v request reply plate index (errorBy code)
     pub judged :
         (number index : ℕ) → (number ≡ 3) ⊎ ((7 ≤ number) × (number ≤ 11)) →
-        WholeGives (refusedBy number) ↔ ReplyGives v request reply r index (refusedBy number)
+        WholeGives (refusedBy number) ↔ ReplyGives v request reply plate index (refusedBy number)
     pub kept : ((n : ℕ) → WholeGives (0 ∷ n ∷ []) → ⊥) → (whole .values ≡ values) × (whole .kinds ≡ kinds)
     pub lengths : (length (whole .values) ≡ length values) × (length (whole .kinds) ≡ length kinds)
     pub each : (n : ℕ) → WholeGives (0 ∷ n ∷ []) → (index : ℕ) → index < n → CellsOf index
     pub beyond :
         (n : ℕ) → WholeGives (0 ∷ n ∷ []) → (index : ℕ) → n ≤ index →
         (getD (whole .values) index 0 ≡ getD values index 0) × (getD (whole .kinds) index 0 ≡ getD kinds index 0)
-        × ReplyGives v request reply r index (refusedBy 12)
+        × ReplyGives v request reply plate index (refusedBy 12)
     pub back :
         (n : ℕ) → WholeGives (0 ∷ n ∷ []) → ((i : ℕ) → getD reply i 0 < 256) → (index : ℕ) → index < n →
-        collectorIn v request reply r index
+        collectorIn v request reply plate index
         ≡ answer.Reading (readBack (tOf r) (getD (whole .kinds) index 0) (getD (whole .values) index 0))
     pub cells :
         (n : ℕ) → WholeGives (0 ∷ n ∷ []) → ((i : ℕ) → getD reply i 0 < 256) → (index : ℕ) → index < n →

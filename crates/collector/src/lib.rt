@@ -1,5 +1,5 @@
 // The collector: a request and the reply to it in, one reading out (paper 01, "Collector"), or all of them in two rows (`whole`). All
-// that it knows of the meter is its directory and the ratios that it is told.
+// that it knows of the meter is its directory and the nameplate that it is told.
 ghost use mathlib.Core.Path.{_≡_};
 ghost use Prim.Native.Nat.{_+_, _*_, _≤_};
 ghost use lib.Dec.{T};
@@ -30,6 +30,13 @@ pub use refusal::Refusal;
 pub use signed::Signed;
 pub use whole::Whole;
 pub use whole::read_whole;
+pub use words::Order;
+
+// What a collector is told of the meter that it asks: the transformer ratios, and which word of a long goes first.
+pub struct Nameplate {
+    pub ratios: Ratios,
+    pub order: Order,
+}
 
 // The function of an error reply to a read.
 const READ_ERROR: u8 = modbus::READ_HOLDING_REGISTERS + modbus::ERROR_FLAG;
@@ -45,11 +52,11 @@ enum Judgement {
     Refused(Refusal),
 }
 
-// What one item of a reply reads as. The ratios are those of the meter that was asked; the index counts the items from 0.
-pub fn read(request: &[u8], reply: &[u8], ratios: Ratios, index: usize) -> Answer
-    ensures { λ r. ⌜ r ≡ collectorOf (now (request .entry)) (now (reply .entry)) ratios index ⌝ }
+// What one item of a reply reads as. The nameplate is that of the meter that was asked; the index counts the items from 0.
+pub fn read(request: &[u8], reply: &[u8], plate: Nameplate, index: usize) -> Answer
+    ensures { λ r. ⌜ r ≡ collectorOf (now (request .entry)) (now (reply .entry)) plate index ⌝ }
 {
-    with_table(&table::TABLE, own::reach(), request, reply, ratios, index)
+    with_table(&table::TABLE, own::reach(), request, reply, plate, index)
 }
 
 // `read` with the table lent: each use of the constant's name copies the whole table onto the stack.
@@ -58,17 +65,18 @@ fn with_table(
     reach: Reach,
     request: &[u8],
     reply: &[u8],
-    ratios: Ratios,
+    plate: Nameplate,
     index: usize,
 ) -> Answer
     requires { ⌜ Lent (now table) reach ⌝ }
-    ensures { λ r. ⌜ r ≡ collectorIn (viewOf (now (table .entry)) reach) (now (request .entry)) (now (reply .entry)) ratios index ⌝ }
+    ensures { λ r. ⌜ r ≡ collectorIn (viewOf (now (table .entry)) reach) (now (request .entry)) (now (reply .entry)) plate index ⌝ }
 {
-    let judged = judge(table, reach, request, reply, ratios);
+    let judged = judge(table, reach, request, reply, plate.ratios);
     match judged {
         Judgement::Items { first, count } => {
             let asked = directory::part(table, first, count);
-            item(asked, reply, ratios.tenths(), index)
+            let order = plate.order;
+            item(asked, reply, order, plate.ratios.tenths(), index)
         }
         Judgement::Error(code) => Answer::Error(code),
         Judgement::Refused(reason) => Answer::Refused(reason),
@@ -155,17 +163,17 @@ fn error(reply: &[u8]) -> Judgement
 }
 
 // The reading of one item, from a data reply that fits the request.
-fn item(asked: &[u16], reply: &[u8], tenths: u32, index: usize) -> Answer
+fn item(asked: &[u16], reply: &[u8], order: Order, tenths: u32, index: usize) -> Answer
     requires { ⌜ T (every shaped (items (now asked))) × T (every meant (items (now asked))) ⌝ }
     requires { ⌜ 3 + 2 * wordsOf (items (now asked)) ≤ length (now reply) ⌝ }
-    ensures { λ r. ⌜ r ≡ itemOf tenths (items (now (asked .entry))) (now (reply .entry)) index ⌝ }
+    ensures { λ r. ⌜ r ≡ itemOf order tenths (items (now (asked .entry))) (now (reply .entry)) index ⌝ }
 {
     if asked.len() / directory::NUMBERS_PER_ITEM <= index {
         return Answer::Refused(Refusal::IndexPastItems);
     }
     let at = place(asked, index);
     let it = directory::item_at(asked, index);
-    let value = words::value_at(reply, at, it.words as usize);
+    let value = words::value_at(reply, at, it.words as usize, order);
     reading::of(tenths, it, value)
 }
 

@@ -15,13 +15,14 @@ ghost use Rattle.reading.specs.Cells.{cellOf};
 ghost use Rattle.collector.specs.Collector.{itemOf};
 ghost use Rattle.collector.specs.Whole.{inTurn, anyThirteen, readingsIn, filledBy, wholeIn, wholeOf, Filled};
 use crate::Judgement;
+use crate::Nameplate;
 use crate::judge;
 use directory::Reach;
 use own::table;
-use ratio::Ratios;
 use reading::Answer;
 use refusal::ErrorCode;
 use refusal::Refusal;
+use words::Order;
 
 // What a whole reply comes to: how many items there are, the meter's error code, or a refusal.
 pub enum Whole {
@@ -38,18 +39,18 @@ const WORDS_MOST: usize = 125;
 pub fn read_whole(
     request: &[u8],
     reply: &[u8],
-    ratios: Ratios,
+    plate: Nameplate,
     values: &mut [u64],
     kinds: &mut [u8],
 ) -> Whole
-    ensures { λ r. ⌜ Filled (wholeOf (now (request .entry)) (now (reply .entry)) ratios (now (values .entry)) (now (kinds .entry))) r (now (values .exit)) (now (kinds .exit)) ⌝ }
+    ensures { λ r. ⌜ Filled (wholeOf (now (request .entry)) (now (reply .entry)) plate (now (values .entry)) (now (kinds .entry))) r (now (values .exit)) (now (kinds .exit)) ⌝ }
 {
     with_table(
         &table::TABLE,
         own::reach(),
         request,
         reply,
-        ratios,
+        plate,
         values,
         kinds,
     )
@@ -61,18 +62,26 @@ fn with_table(
     reach: Reach,
     request: &[u8],
     reply: &[u8],
-    ratios: Ratios,
+    plate: Nameplate,
     values: &mut [u64],
     kinds: &mut [u8],
 ) -> Whole
     requires { ⌜ Lent (now table) reach ⌝ }
-    ensures { λ r. ⌜ Filled (wholeIn (viewOf (now (table .entry)) reach) (now (request .entry)) (now (reply .entry)) ratios (now (values .entry)) (now (kinds .entry))) r (now (values .exit)) (now (kinds .exit)) ⌝ }
+    ensures { λ r. ⌜ Filled (wholeIn (viewOf (now (table .entry)) reach) (now (request .entry)) (now (reply .entry)) plate (now (values .entry)) (now (kinds .entry))) r (now (values .exit)) (now (kinds .exit)) ⌝ }
 {
-    let judged = judge(table, reach, request, reply, ratios);
+    let judged = judge(table, reach, request, reply, plate.ratios);
     match judged {
         Judgement::Items { first, count } => {
             let asked = directory::part(table, first, count);
-            fill(asked, reply, ratios.tenths(), values, kinds)
+            let order = plate.order;
+            fill(
+                asked,
+                reply,
+                order,
+                plate.ratios.tenths(),
+                values,
+                kinds,
+            )
         }
         Judgement::Error(code) => Whole::Error(code),
         Judgement::Refused(reason) => Whole::Refused(reason),
@@ -81,10 +90,10 @@ fn with_table(
 
 // Fills the rows, from a data reply that fits the request. What is read is kept apart until all of it is: the last item may yet be
 // refused.
-fn fill(asked: &[u16], reply: &[u8], tenths: u32, values: &mut [u64], kinds: &mut [u8]) -> Whole
+fn fill(asked: &[u16], reply: &[u8], order: Order, tenths: u32, values: &mut [u64], kinds: &mut [u8]) -> Whole
     requires { ⌜ T (every shaped (items (now asked))) × T (every meant (items (now asked))) ⌝ }
     requires { ⌜ (3 + 2 * wordsOf (items (now asked)) ≤ length (now reply)) × (wordsOf (items (now asked)) ≤ 125) ⌝ }
-    ensures { λ r. ⌜ Filled (filledBy (inTurn (length (items (now (asked .entry)))) (itemOf tenths (items (now (asked .entry))) (now (reply .entry)))) (now (values .entry)) (now (kinds .entry))) r (now (values .exit)) (now (kinds .exit)) ⌝ }
+    ensures { λ r. ⌜ Filled (filledBy (inTurn (length (items (now (asked .entry)))) (itemOf order tenths (items (now (asked .entry))) (now (reply .entry)))) (now (values .entry)) (now (kinds .entry))) r (now (values .exit)) (now (kinds .exit)) ⌝ }
 {
     let n = asked.len() / directory::NUMBERS_PER_ITEM;
     if (values.len() < n) | (kinds.len() < n) {
@@ -92,7 +101,7 @@ fn fill(asked: &[u16], reply: &[u8], tenths: u32, values: &mut [u64], kinds: &mu
     }
     let mut cells = [0u64; WORDS_MOST];
     let mut numbers = [0u8; WORDS_MOST];
-    if !all_read(asked, reply, tenths, &mut cells, &mut numbers) {
+    if !all_read(asked, reply, order, tenths, &mut cells, &mut numbers) {
         return Whole::Refused(Refusal::ValueImpossible);
     }
     lay(&cells, &numbers, n, values, kinds);
@@ -100,20 +109,20 @@ fn fill(asked: &[u16], reply: &[u8], tenths: u32, values: &mut [u64], kinds: &mu
 }
 
 // Reads the items in turn, each behind the words of the one before it. Whether none of them is refused.
-fn all_read(asked: &[u16], reply: &[u8], tenths: u32, cells: &mut [u64], numbers: &mut [u8]) -> bool
+fn all_read(asked: &[u16], reply: &[u8], order: Order, tenths: u32, cells: &mut [u64], numbers: &mut [u8]) -> bool
     requires { ⌜ T (every shaped (items (now asked))) × T (every meant (items (now asked))) ⌝ }
     requires { ⌜ 3 + 2 * wordsOf (items (now asked)) ≤ length (now reply) ⌝ }
     requires { ⌜ (length (items (now asked)) ≤ length (now cells)) × (length (items (now asked)) ≤ length (now numbers)) ⌝ }
-    ensures { λ r. ⌜ r ≡ not (anyThirteen (inTurn (length (items (now (asked .entry)))) (itemOf tenths (items (now (asked .entry))) (now (reply .entry))))) ⌝ }
-    ensures { λ r. ⌜ (r ≡ true → now (cells .exit) ≡ sets (now (cells .entry)) 0 (map cellOf (readingsIn (inTurn (length (items (now (asked .entry)))) (itemOf tenths (items (now (asked .entry))) (now (reply .entry))))))) ⌝ }
-    ensures { λ r. ⌜ (r ≡ true → now (numbers .exit) ≡ sets (now (numbers .entry)) 0 (map kindOf (readingsIn (inTurn (length (items (now (asked .entry)))) (itemOf tenths (items (now (asked .entry))) (now (reply .entry))))))) ⌝ }
+    ensures { λ r. ⌜ r ≡ not (anyThirteen (inTurn (length (items (now (asked .entry)))) (itemOf order tenths (items (now (asked .entry))) (now (reply .entry))))) ⌝ }
+    ensures { λ r. ⌜ (r ≡ true → now (cells .exit) ≡ sets (now (cells .entry)) 0 (map cellOf (readingsIn (inTurn (length (items (now (asked .entry)))) (itemOf order tenths (items (now (asked .entry))) (now (reply .entry))))))) ⌝ }
+    ensures { λ r. ⌜ (r ≡ true → now (numbers .exit) ≡ sets (now (numbers .entry)) 0 (map kindOf (readingsIn (inTurn (length (items (now (asked .entry)))) (itemOf order tenths (items (now (asked .entry))) (now (reply .entry))))))) ⌝ }
 {
     let n = asked.len() / directory::NUMBERS_PER_ITEM;
     let mut at = modbus::DATA_HEAD;
     let mut i: usize = 0;
     while i < n {
         let it = directory::item_at(asked, i);
-        let value = words::value_at(reply, at, it.words as usize);
+        let value = words::value_at(reply, at, it.words as usize, order);
         let answer = reading::of(tenths, it, value);
         let Answer::Reading(q) = answer else {
             return false;

@@ -1,5 +1,5 @@
 -- Paper 01, "The meter's record": the limits of a record, and a new meter. Paper 02: the record gains
--- the figures of `average` (request 1) and a second address (request 3).
+-- the figures of `average` (request 1), a second address (request 3) and an order of words (request 5).
 use Prim.Native.Nat.{ℕ}
 use mathlib.Core.List.{List, [], _∷_}
 use mathlib.Core.Bool.{Bool, _&&_, not, cond}
@@ -7,6 +7,7 @@ use lib.Dec.{leb, eqb}
 use lib.ListN.{getD}
 use Rattle.refusal.specs.declared.Refusal.the-variants.{MeterOutOfLimits, RatioOutOfLimits, OwnAddressZero}
 use Rattle.refusal.specs.Numbers.{refusalNumber, refusedBy}
+use Rattle.words.specs.declared.Order.the-variants.{LowerFirst}
 use Rattle.ratio.specs.declared.Ratios.{Ratios}
 use Rattle.ratio.specs.Ratios.{ratiosOk, tOf}
 use Rattle.average.specs.declared.Average.{Average}
@@ -28,7 +29,7 @@ use Rattle.meter.specs.Groups.{setupOk, noSetup, codeOf}
 abbrev pub meterT : Meter → ℕ
 meterT m = tOf (m .given .ratios)
 
--- own address 1 to 255 (it is a byte); a second, 0 for none, that is not equal to it (request 3); ratios
+-- own address 1 to 255 (it is a byte); a second, 0 for none, that is not equal to it (request 3); ratios; any order (request 5)
 abbrev pub givenOk : Given → Bool
 givenOk g = leb 1 (g .address) && not (eqb (g .second) (g .address)) && ratiosOk (g .ratios)
 
@@ -42,9 +43,9 @@ meterOk m =
     averageOk (meterT m) (codeOf (m .setup)) (m .average) &&
     setupOk (m .setup)
 
--- what a new meter is given that names no second address
+-- what a new meter is given that names neither: no second address, and lower word first
 abbrev pub givenOf : ℕ → Ratios → Given
-givenOf address ratios = record { address = address; second = 0; ratios = ratios }
+givenOf address ratios = record { address = address; second = 0; ratios = ratios; order = LowerFirst }
 
 -- counters and remainders 0, setup words 0, sample 0 except sequence 1; request 1's figures 0
 abbrev pub blankOf : Given → Meter

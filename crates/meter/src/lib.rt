@@ -17,6 +17,7 @@ use groups::Setup;
 use ratio::Ratios;
 use refusal::Refusal;
 use samples::Sample;
+use words::Order;
 
 // A meter's record, in groups. Each group tests its own limits and says what it is in a new meter.
 pub struct Meter {
@@ -56,7 +57,7 @@ impl Meter {
 
     pub const SECTOR_TOP: u8 = 2;
 
-    // A new meter that names no second address.
+    // A new meter that names neither a second address nor an order: it has none, and sends the lower word first.
     pub fn new(address: u8, ratios: Ratios) -> Answered
         ensures { λ r. ⌜ r ≡ newOf (givenOf address ratios) ⌝ }
     {
@@ -64,6 +65,7 @@ impl Meter {
             address,
             second: Given::NO_SECOND,
             ratios,
+            order: Order::LowerFirst,
         })
     }
 

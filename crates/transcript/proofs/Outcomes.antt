@@ -51,7 +51,7 @@ module _ (P : Outcome → Type 0) (m : Meter) (frame b : List ℕ) where
     quiet : P (silentOf m b)
     stored : P (silentOf (writtenOf m frame .meter) b)
     other : 4 ≤ length frame → P (sentOf (errorReply frame Function) m b)
-    read : (tenant : Bool) → 4 ≤ length frame → P (sentOf (readReply (viewFor own tenant) (shownOf m) frame) m b)
+    read : (tenant : Bool) → 4 ≤ length frame → P (sentOf (readReply (viewFor own tenant) (m .given .order) (shownOf m) frame) m b)
     written : 4 ≤ length frame → P (sentOf (writeReply frame (writtenOf m frame .verdict)) (writtenOf m frame .meter) b)
 
   -- address 0 has silence
@@ -64,7 +64,7 @@ module _ (P : Outcome → Type 0) (m : Meter) (frame b : List ℕ) where
       either P (silence address frame) _ _ (λ _. o .quiet) (λ s.
       let four = heeded address frame s .least in
       either P (not (isRead frame) && not (writes && isWrite frame)) _ _ (λ _. replied (errorReply frame Function) m (o .quiet) (o .other four)) (λ _.
-      either P (isRead frame) _ _ (λ _. replied (readReply (viewFor own tenant) (shownOf m) frame) m (o .quiet) (o .read tenant four)) (λ _.
+      either P (isRead frame) _ _ (λ _. replied (readReply (viewFor own tenant) (m .given .order) (shownOf m) frame) m (o .quiet) (o .read tenant four)) (λ _.
       replied (writeReply frame (writtenOf m frame .verdict)) (writtenOf m frame .meter) (o .stored) (o .written four))))
 
   each : Each → P (boardOf m frame b)
@@ -152,18 +152,18 @@ module _ (m : Meter) (frame b : List ℕ) where
       omega (arith, length-sealed (take 6 frame), six)
 
   -- data is 245 bytes at the most, for a frame of eight
-  read-brief : (v : View) → T (passes v) → v .most ≤ 120 → 4 ≤ length frame → 3 * length (readReply v (shownOf m) frame) ≤ 32 * (3 * length frame - 1)
+  read-brief : (v : View) → T (passes v) → v .most ≤ 120 → 4 ≤ length frame → 3 * length (readReply v (m .given .order) (shownOf m) frame) ≤ 32 * (3 * length frame - 1)
   read-brief v good most h = by (readIn v frame) refl
     where
-      by : (span : Span) → readIn v frame ≡ span → 3 * length (readBytes v (shownOf m) frame span) ≤ 32 * (3 * length frame - 1)
+      by : (span : Span) → readIn v frame ≡ span → 3 * length (readBytes v (m .given .order) (shownOf m) frame span) ≤ 32 * (3 * length frame - 1)
       by (Error code) e = omega arith
       by (Items first count) e =
           let a = legal-read v good e in
           let its = runItems (v .seen) first count in
-          let bs = addressOf frame ∷ functionOf frame ∷ 2 * wordNumber frame ∷ itemsSent (shownOf m) its in
-          omega (arith, length-sealed bs, length-items (shownOf m) its, a .sends, a .most, a .long, most)
+          let bs = addressOf frame ∷ functionOf frame ∷ 2 * wordNumber frame ∷ itemsSent (m .given .order) (shownOf m) its in
+          omega (arith, length-sealed bs, length-items (m .given .order) (shownOf m) its, a .sends, a .most, a .long, most)
 
-  part-brief : (tenant : Bool) → 4 ≤ length frame → 3 * length (readReply (viewFor own tenant) (shownOf m) frame) ≤ 32 * (3 * length frame - 1)
+  part-brief : (tenant : Bool) → 4 ≤ length frame → 3 * length (readReply (viewFor own tenant) (m .given .order) (shownOf m) frame) ≤ 32 * (3 * length frame - 1)
   part-brief true = read-brief (tenantOf own) (tenant-passes own (own-passes .passed)) (omega arith)
   part-brief false = read-brief own (own-passes .passed) (omega arith)
 
@@ -177,6 +177,6 @@ module _ (m : Meter) (frame b : List ℕ) where
         quiet = silent-brief m;
         stored = silent-brief next;
         other = λ h. sent-brief (errorReply frame Function) m (omega arith);
-        read = λ tenant h. sent-brief (readReply (viewFor own tenant) (shownOf m) frame) m (part-brief tenant h);
+        read = λ tenant h. sent-brief (readReply (viewFor own tenant) (m .given .order) (shownOf m) frame) m (part-brief tenant h);
         written = λ h. sent-brief (writeReply frame (writtenOf m frame .verdict)) next (write-brief h (writtenOf m frame .verdict));
       })

@@ -8,13 +8,14 @@ use lib.ListN.{length, take, replicate}
 use lib.Seq.{sets}
 use borrow.Author.Tests.{le-leb}
 use Rattle.refusal.specs.declared.Refusal.{Refusal}
+use Rattle.words.specs.declared.Order.the-variants.{UpperFirst}
 use Rattle.lines.specs.Lines.{lineOk, bytesOf}
 use Rattle.modbus.proofs.Stores.{sets-taken}
 use Rattle.meter.specs.declared.Meter.{Meter}
-use Rattle.meter.specs.Meters.{meterOk, givenOf}
+use Rattle.meter.specs.Meters.{meterOk}
 use Rattle.meter.proofs.Accepts.{made-within, new-answers, new-blank}
 use Rattle.board.specs.declared.Reply.the-variants.{Refused}
-use Rattle.transcript.specs.Transcript.{outcomeOf, meterAfter, benchMeter, benchText, roomFor, Transcribed, TextWritten}
+use Rattle.transcript.specs.Transcript.{outcomeOf, meterAfter, benchGiven, benchMeter, benchText, roomFor, Transcribed, TextWritten}
 use Rattle.transcript.proofs.Outcomes.{stays-within, never-refuses}
 use Rattle.transcript.proofs.Texts.{input-most}
 
@@ -31,13 +32,15 @@ whole input before answer after h t =
 
 new : meterOk benchMeter ≡ true
 unfolding benchMeter
-new =
-    let g = givenOf 1 (record { kta = 1; ktv = 10 }) in
-    made-within g (new-answers g .accepted .1 (refl, λ e. omega arith, λ e. omega arith))
+new = made-within benchGiven (new-answers benchGiven .accepted .1 (refl, λ e. omega arith, λ e. omega arith))
 
 alone : benchMeter .given .second ≡ 0
 unfolding benchMeter
-alone = ap (λ (m : Meter). m .given .second) (new-blank (givenOf 1 (record { kta = 1; ktv = 10 })))
+alone = ap (λ (m : Meter). m .given .second) (new-blank benchGiven)
+
+upper : benchMeter .given .order ≡ UpperFirst
+unfolding benchMeter
+upper = ap (λ (m : Meter). m .given .order) (new-blank benchGiven)
 
 within : (m : Meter) (line : List ℕ) → meterOk m ≡ true → meterOk (meterAfter m line) ≡ true
 unfolding meterAfter outcomeOf
@@ -52,4 +55,4 @@ unfolding outcomeOf
 answered m line reason h = never-refuses m (bytesOf line) (replicate 256 0) h (omega arith) reason
 
 pub text-written : TextWritten
-text-written = record { fits = fits; whole = whole; answered = answered; within = within; new = new; alone = alone }
+text-written = record { fits = fits; whole = whole; answered = answered; within = within; new = new; alone = alone; upper = upper }

@@ -7,9 +7,11 @@ use lib.Dec.{leb, eqb}
 use lib.ListN.{length, take, replicate}
 use lib.Seq.{sets}
 use Rattle.refusal.specs.declared.Refusal.{Refusal}
+use Rattle.words.specs.declared.Order.the-variants.{UpperFirst}
 use Rattle.lines.specs.Lines.{lineOk, bytesOf, textOf}
+use Rattle.meter.specs.declared.given.Given.{Given}
 use Rattle.meter.specs.declared.Meter.{Meter}
-use Rattle.meter.specs.Meters.{meterOk, givenOf, newOf}
+use Rattle.meter.specs.Meters.{meterOk, newOf}
 use Rattle.board.specs.declared.Reply.{Reply}
 use Rattle.board.specs.declared.Reply.the-variants.{Silent, Sent, Refused}
 use Rattle.board.specs.Board.{Outcome, boardOf}
@@ -55,9 +57,13 @@ unfoldable pub transcriptOf : Meter → List (List ℕ) → List ℕ
 transcriptOf m [] = []
 transcriptOf m (line ∷ lines) = lineText m line ++ (0x0A ∷ transcriptOf (meterAfter m line) lines)
 
--- address 1, KTA 1, KTV 10, new
+-- address 1, KTA 1, KTV 10; no second address (request 3); upper word first (request 5)
+abbrev pub benchGiven : Given
+benchGiven = record { address = 1; second = 0; ratios = record { kta = 1; ktv = 10 }; order = UpperFirst }
+
+-- new
 unfoldable pub benchMeter : Meter
-benchMeter = newOf (givenOf 1 (record { kta = 1; ktv = 10 })) .meter
+benchMeter = newOf benchGiven .meter
 
 -- the text of the whole input; no header
 unfoldable pub benchText : List ℕ → List ℕ
@@ -73,7 +79,7 @@ pub record Transcribed (input before : List ℕ) (answer : ℕ) (after : List �
   pub bytes : after ≡ cond (roomFor input (length before)) (sets before 0 (benchText input)) before
 
 -- STATEMENT: the text fits its room, and stands there whole; a meter within limits refuses nothing and stays so, as bench's is, which has
--- no second address (request 3)
+-- no second address (request 3) and sends the upper word first (request 5)
 pub record TextWritten : Type 0 where
   pub fits : (input : List ℕ) → length (benchText input) ≤ 32 * length input
   pub whole :
@@ -84,3 +90,4 @@ pub record TextWritten : Type 0 where
   pub within : (m : Meter) (line : List ℕ) → meterOk m ≡ true → meterOk (meterAfter m line) ≡ true
   pub new : meterOk benchMeter ≡ true
   pub alone : benchMeter .given .second ≡ 0
+  pub upper : benchMeter .given .order ≡ UpperFirst

@@ -8,7 +8,9 @@ ghost use Rattle.transcript.specs.Transcript.{replyText, lineText, meter
 use board::Reply;
 use lines::Line;
 use meter::Meter;
+use meter::given::Given;
 use ratio::Ratios;
+use words::Order;
 
 // One byte more than the longest frame. A longer one is cut here; what is left is still too long, and the meter keeps silent on it.
 const FRAME_ROOM: usize = 257;
@@ -42,7 +44,12 @@ fn run(input: &[u8], text: &mut [u8]) -> usize
     ensures { λ r. ⌜ r ≡ length (benchText (now (input .entry))) ⌝ }
     ensures { λ _. ⌜ now (text .exit) ≡ sets (now (text .entry)) 0 (benchText (now (input .entry))) ⌝ }
 {
-    let new = Meter::new(1, Ratios { kta: 1, ktv: 10 });
+    let new = Meter::of(Given {
+        address: 1,
+        second: Given::NO_SECOND,
+        ratios: Ratios { kta: 1, ktv: 10 },
+        order: Order::UpperFirst,
+    });
     let mut meter = new.meter;
     let mut at = 0;
     let mut end = 0;

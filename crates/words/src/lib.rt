@@ -1,12 +1,19 @@
-// Words on the line: two bytes, upper byte first; a long is two words, upper word first (paper 01, "The directory").
+// Words on the line: two bytes, upper byte first; a long is two words, in either order (paper 01, "The directory"; paper 02, request 5).
 // The callers see to it that place and width fit the buffer, so nothing is tested again here.
 ghost use mathlib.Core.Path.{_≡_};
 ghost use Prim.Native.Nat.{_+_, _-_, _*_, _%_, _≤_, _<_};
 ghost use mathlib.Core.Bool.{cond};
 ghost use lib.ListN.{length};
 ghost use lib.Seq.{sets};
+ghost use mathlib.Core.List.{_++_};
 ghost use Rattle.words.specs.Words.{word, sent, wordAt, valueAt};
 ghost use Rattle.words.specs.Signed.{twos};
+
+// Which word of a long goes first.
+pub enum Order {
+    UpperFirst,
+    LowerFirst,
+}
 
 fn put_word(buffer: &mut [u8], at: usize, w: u16)
     requires { ⌜ at + 2 ≤ length (now buffer) ⌝ }
@@ -16,17 +23,28 @@ fn put_word(buffer: &mut [u8], at: usize, w: u16)
     buffer[at + 1] = (w % 256) as u8;
 }
 
-// Puts v at a place of the buffer: its lower 16 bits as one word, or all 32 as two.
-pub fn put(buffer: &mut [u8], at: usize, words: usize, v: u32)
+fn put_two(buffer: &mut [u8], at: usize, first: u16, second: u16)
+    requires { ⌜ at + 4 ≤ length (now buffer) ⌝ }
+    ensures { λ _. ⌜ now (buffer .exit) ≡ sets (now (buffer .entry)) at (word first ++ word second) ⌝ }
+{
+    put_word(buffer, at, first);
+    put_word(buffer, at + 2, second);
+}
+
+// Puts v at a place of the buffer: its lower 16 bits as one word, or all 32 as two in their order.
+pub fn put(buffer: &mut [u8], at: usize, words: usize, order: Order, v: u32)
     requires { ⌜ (at + 2 * words ≤ length (now buffer)) × ((1 ≤ words) × (words ≤ 2)) ⌝ }
-    ensures { λ _. ⌜ now (buffer .exit) ≡ sets (now (buffer .entry)) at (sent words v) ⌝ }
+    ensures { λ _. ⌜ now (buffer .exit) ≡ sets (now (buffer .entry)) at (sent order words v) ⌝ }
 {
     let lower = (v % 65536) as u16;
     if words == 1 {
         put_word(buffer, at, lower);
-    } else {
-        put_word(buffer, at, (v / 65536) as u16);
-        put_word(buffer, at + 2, lower);
+        return;
+    }
+    let upper = (v / 65536) as u16;
+    match order {
+        Order::UpperFirst => put_two(buffer, at, upper, lower),
+        Order::LowerFirst => put_two(buffer, at, lower, upper),
     }
 }
 
@@ -44,16 +62,19 @@ pub fn word_at(bytes: &[u8], at: usize) -> u16
     wide(bytes[at]) * 256 + wide(bytes[at + 1])
 }
 
-// The value at a place: of one word, or of two.
-pub fn value_at(bytes: &[u8], at: usize, words: usize) -> u32
+// The value at a place: of one word, or of two in their order.
+pub fn value_at(bytes: &[u8], at: usize, words: usize, order: Order) -> u32
     requires { ⌜ (at + 2 * words ≤ length (now bytes)) × ((1 ≤ words) × (words ≤ 2)) ⌝ }
-    ensures { λ r. ⌜ r ≡ valueAt words (now (bytes .entry)) at ⌝ }
+    ensures { λ r. ⌜ r ≡ valueAt order words (now (bytes .entry)) at ⌝ }
 {
     let first = word_at(bytes, at) as u32;
     if words == 1 {
-        first
-    } else {
-        first * 65536 + word_at(bytes, at + 2) as u32
+        return first;
+    }
+    let second = word_at(bytes, at + 2) as u32;
+    match order {
+        Order::UpperFirst => first * 65536 + second,
+        Order::LowerFirst => second * 65536 + first,
     }
 }
 

@@ -22,7 +22,7 @@ its s = items (s .args .asked .now)
 returns : tie.Need-returns
 returns c =
     let s = c .before .before .before in
-    item-past (s .args .tenths) (its s) (s .args .reply .now) (s .args .index) (omega (arith, items-length (s .args .asked .now)))
+    item-past (s .args .order) (s .args .tenths) (its s) (s .args .reply .now) (s .args .index) (omega (arith, items-length (s .args .asked .now)))
 
 below : (e : tie.Else1) → e .before .before .before .args .index < length (its (e .before .before .before))
 below e = omega (arith, items-length (e .before .before .before .args .asked .now))
@@ -54,7 +54,7 @@ of-requires c κs =
     let r = c .before .before in
     let k = found r in
     let bytes = r .before .before .before .shared-slice-known2 .given in
-    ((k .shapely, k .means), rw (c .value-at .ensures) (value-fits (start r .args .reply .now) (λ i. omega (arith, bytes i)) (r .item-at .result .words) (r .before .place .result)))
+    ((k .shapely, k .means), rw (c .value-at .ensures) (value-fits (start r .args .reply .now) (λ i. omega (arith, bytes i)) (start r .args .order) (r .item-at .result .words) (r .before .place .result)))
 
 returns-2 : tie.Need-returns-2
 returns-2 c =
@@ -62,9 +62,9 @@ returns-2 c =
     let s = start r in
     let a = s .args in
     c .of .ensures
-    ∙ ap (readingOf (a .tenths) (r .item-at .result)) (c .before .value-at .ensures ∙ ap (valueAt (r .item-at .result .words) (a .reply .now)) (r .before .place .ensures))
-    ∙ ap (λ (it : Item). readingOf (a .tenths) it (valueAt (it .words) (a .reply .now) (placeOf (its s) (a .index)))) (r .item-at .ensures)
-    ∙ sym (item-reads (a .tenths) (its s) (a .reply .now) (a .index) (below (r .before .before)))
+    ∙ ap (readingOf (a .tenths) (r .item-at .result)) (c .before .value-at .ensures ∙ ap (valueAt (a .order) (r .item-at .result .words) (a .reply .now)) (r .before .place .ensures))
+    ∙ ap (λ (it : Item). readingOf (a .tenths) it (valueAt (a .order) (it .words) (a .reply .now) (placeOf (its s) (a .index)))) (r .item-at .ensures)
+    ∙ sym (item-reads (a .order) (a .tenths) (its s) (a .reply .now) (a .index) (below (r .before .before)))
 
 pub item-spec : {M : Type 1} → statement M
 item-spec =

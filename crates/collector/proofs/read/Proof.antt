@@ -23,7 +23,7 @@ returns : tie.Need-returns
 unfolding directory flat
 returns c =
     let a = c .before .before .before .before .before .args in
-    c .with-table .ensures ∙ ap (λ (v : View). collectorIn v (a .request .now) (a .reply .now) (a .ratios) (a .index)) (own-view _ (c .before .reach .ensures))
+    c .with-table .ensures ∙ ap (λ (v : View). collectorIn v (a .request .now) (a .reply .now) (a .plate) (a .index)) (own-view _ (c .before .reach .ensures))
 
 pub read-spec : {M : Type 1} → statement M
 read-spec =

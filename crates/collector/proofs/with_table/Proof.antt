@@ -17,13 +17,13 @@ use Rattle.collector.proofs.with_table.Tie as tie
 
 -- what request and reply are judged to be
 abbrev judged : tie.Start → Judgement
-judged s = judgedIn (viewOf (s .args .table .now) (s .args .reach)) (s .args .request .now) (s .args .reply .now) (s .args .ratios)
+judged s = judgedIn (viewOf (s .args .table .now) (s .args .reach)) (s .args .request .now) (s .args .reply .now) (s .args .plate .ratios)
 
 -- how it goes on from there
 abbrev going : tie.Start → Judgement → Answer
-going s j = onData (viewOf (s .args .table .now) (s .args .reach)) j (λ its. itemOf (tOf (s .args .ratios)) its (s .args .reply .now) (s .args .index))
+going s j = onData (viewOf (s .args .table .now) (s .args .reach)) j (λ its. itemOf (s .args .plate .order) (tOf (s .args .plate .ratios)) its (s .args .reply .now) (s .args .index))
 
-goes : (s : tie.Start) → going s (judged s) ≡ collectorIn (viewOf (s .args .table .now) (s .args .reach)) (s .args .request .now) (s .args .reply .now) (s .args .ratios) (s .args .index)
+goes : (s : tie.Start) → going s (judged s) ≡ collectorIn (viewOf (s .args .table .now) (s .args .reach)) (s .args .request .now) (s .args .reply .now) (s .args .plate) (s .args .index)
 unfolding collectorIn
 goes s = refl
 
@@ -41,7 +41,7 @@ found : (c : tie.After-known-told) → judged (start c) ≡ Items (c .before .ju
 found c = sym (c .before .before .before .judge .ensures) ∙ c .before .judged .given .1
 
 part : (c : tie.After-known-told) → DataPart (start c .args .table .now) (start c .args .reach) (start c .args .reply .now) (c .before .judged .given .0 .0) (c .before .judged .given .0 .1 .0)
-part c = data-part (start c .args .table .now) (start c .args .reach) (start c .pre) (start c .args .request .now) (start c .args .reply .now) (start c .args .ratios) _ _ (found c)
+part c = data-part (start c .args .table .now) (start c .args .reach) (start c .pre) (start c .args .request .now) (start c .args .reply .now) (start c .args .plate .ratios) _ _ (found c)
 
 part-requires : tie.Need-part-requires
 part-requires c κs = part c .inside
@@ -65,7 +65,7 @@ returns c =
     let k = c .before .before .before in
     let s = start k in
     c .item .ensures
-    ∙ ap₂ (λ (t : ℕ) (its : List Item). itemOf t its (s .args .reply .now) (s .args .index)) (c .before .tenths .ensures) (ap items (c .before .before .part .ensures) ∙ part k .holds)
+    ∙ ap₂ (λ (t : ℕ) (its : List Item). itemOf (s .args .plate .order) t its (s .args .reply .now) (s .args .index)) (c .before .tenths .ensures) (ap items (c .before .before .part .ensures) ∙ part k .holds)
     ∙ ap (going s) (sym (found k))
     ∙ goes s
 

@@ -5,10 +5,10 @@ use Prim.Native.Nat.{ℕ, suc, _+_, _-_, _≤_, _<_}
 use native.Mathlib.Omega.{arith}
 use lib.ListN.{length, take, drop, set, length-set, drop-of-length-le}
 use lib.Seq.{sets, length-sets}
-use Rattle.transcript.specs.Transcript.{linesOf, transcriptOf, lineText, meterAfter, benchMeter, benchText}
+use Rattle.transcript.specs.Transcript.{linesOf, transcriptOf, lineText, meterAfter, benchGiven, benchMeter, benchText}
 use Rattle.meter.specs.declared.Meter.{Meter}
 use Rattle.meter.specs.declared.Answered.{Answered}
-use Rattle.meter.specs.Meters.{givenOf, newOf}
+use Rattle.meter.specs.Meters.{newOf}
 use Rattle.words.proofs.Laws.{sets-append}
 use Rattle.transcript.proofs.Texts.{line-ends, next-text, next-length}
 use Rattle.transcript.proofs.Written.{text-written}
@@ -26,7 +26,7 @@ Inv-loop input text₀ meter₀ at₀ end₀ text meter at end =
 abbrev μ-loop : tie.MeasureT-loop
 μ-loop input text₀ meter₀ at₀ end₀ text meter at end = length input - at
 
-begun : (made : Answered) (input : List ℕ) → made ≡ newOf (givenOf 1 (record { kta = 1; ktv = 10 })) → transcriptOf (made .meter) (linesOf input) ≡ benchText input
+begun : (made : Answered) (input : List ℕ) → made ≡ newOf benchGiven → transcriptOf (made .meter) (linesOf input) ≡ benchText input
 unfolding benchText benchMeter
 begun made input e = ap (λ (x : Answered). transcriptOf (x .meter) (linesOf input)) e
 
@@ -95,13 +95,13 @@ module _ (c : tie.After-answer Inv-loop μ-loop) where
       rw (same-left, next-text (input found) (at found) (found .line-end .result) (inside found) (found .line-end .ensures) (loop found .loop .meter))
       (turn (loop found .loop .text) (c .answer .last .1 .1 .0) (lineText (loop found .loop .meter) (line found)) _ (loop found .loop .end) (c .answer .result .end) (c .answer .ensures .1) (c .answer .ensures .0 .1))
 
-new-requires : tie.Need-new-requires Inv-loop μ-loop
-new-requires c κs = tt
+of-requires : tie.Need-of-requires Inv-loop μ-loop
+of-requires c κs = tt
 
 loop-holds : tie.Need-loop-holds Inv-loop μ-loop
 loop-holds c =
     let s = c .before .before .before .before in
-    let b = begun (c .before .new .result) (s .args .input .now) (c .before .new .ensures) in
+    let b = begun (c .before .of .result) (s .args .input .now) (c .before .of .ensures) in
     (omega arith, refl, omega (arith, ap length b), rw b refl)
 
 line-end-requires : tie.Need-line-end-requires Inv-loop μ-loop
@@ -164,7 +164,7 @@ run-spec =
     (tie.spec
     Inv-loop
     μ-loop
-    new-requires
+    of-requires
     loop-holds
     line-end-requires
     sub-answer

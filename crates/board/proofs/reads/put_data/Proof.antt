@@ -54,7 +54,7 @@ bytes-for s n =
     addressOf (s .args .frame .now) ∷
     functionOf (s .args .frame .now) ∷
     2 * n ∷
-    itemsSent (shownOf (s .args .m)) (items (s .args .asked .now))
+    itemsSent (s .args .m .given .order) (shownOf (s .args .m)) (items (s .args .asked .now))
 
 abbrev bytes : tie.Start → List ℕ
 bytes s = bytes-for s (wordNumber (s .args .frame .now))
@@ -65,7 +65,7 @@ start p = p .before .before .before .before .before .before .before .before
 long : (p : tie.After-put-items) → length (bytes (start p)) ≡ p .put-items .result
 long p =
     let s = start p in
-    omega (arith, length-items (shownOf (s .args .m)) (items (s .args .asked .now)), p .put-items .ensures .0)
+    omega (arith, length-items (s .args .m .given .order) (shownOf (s .args .m)) (items (s .args .asked .now)), p .put-items .ensures .0)
 
 room : (p : tie.After-put-items) → p .put-items .result + 2 ≤ length (start p .args .buffer .now)
 room p = let s = start p in omega (arith, p .put-items .ensures .0, s .pre .1 .1 .0 .1, s .pre .1 .1 .1 .0, s .pre .1 .1 .1 .1)
@@ -86,7 +86,7 @@ returns c =
 same-length : tie.Need-same-length
 same-length c =
     let s = c .before .before .before .before .before .before .before .before .before .before .before .before .before .before in
-    ap length (returns c .1) ∙ length-sets (s .args .buffer .now) 0 (dataReply (s .args .frame .now) (itemsSent (shownOf (s .args .m)) (items (s .args .asked .now))))
+    ap length (returns c .1) ∙ length-sets (s .args .buffer .now) 0 (dataReply (s .args .frame .now) (itemsSent (s .args .m .given .order) (shownOf (s .args .m)) (items (s .args .asked .now))))
 
 pub put-data-spec : {M : Type 1} → statement M
 put-data-spec =

@@ -45,7 +45,7 @@ unfolding directory flat
 returns c =
     let s = c .before .before .before .before .before .before .before .before in
     let e = c .before .before .with-table .ensures in
-    let same = ap (λ (v : View). readReply v (shownOf (s .args .m)) (s .args .frame .now)) (part-view (s .args .tenant) _ (c .before .before .before .before .reach-for .ensures)) in
+    let same = ap (λ (v : View). readReply v (s .args .m .given .order) (shownOf (s .args .m)) (s .args .frame .now)) (part-view (s .args .tenant) _ (c .before .before .before .before .reach-for .ensures)) in
     (e .0 ∙ ap length same, e .1 ∙ ap (sets (s .args .buffer .now) 0) same)
 
 pub read-spec : {M : Type 1} → statement M

@@ -4,6 +4,7 @@ use mathlib.Core.List.{List}
 use Prim.Native.Nat.{ℕ}
 use lib.ListN.{length}
 use lib.Seq.{sets}
+use Rattle.words.specs.declared.Order.{Order}
 use Rattle.directory.specs.declared.Span.{Span}
 use Rattle.directory.specs.declared.Span.the-variants.{Items, Error}
 use Rattle.directory.specs.declared.Item.{Item}
@@ -22,8 +23,8 @@ abbrev view : tie.Start → View
 view s = viewOf (s .args .table .now) (s .args .reach)
 
 -- the reply of a judgement is the reply of the read that is judged so
-replied : (v : View) (shown : ℕ → ℕ) (frame buffer : List ℕ) (span : Span) {k : ℕ} {after : List ℕ} → readIn v frame ≡ span → (k ≡ length (readBytes v shown frame span)) × (after ≡ sets buffer 0 (readBytes v shown frame span)) → (k ≡ length (readReply v shown frame)) × (after ≡ sets buffer 0 (readReply v shown frame))
-replied v shown frame buffer span e h = rw e h
+replied : (v : View) (o : Order) (shown : ℕ → ℕ) (frame buffer : List ℕ) (span : Span) {k : ℕ} {after : List ℕ} → readIn v frame ≡ span → (k ≡ length (readBytes v o shown frame span)) × (after ≡ sets buffer 0 (readBytes v o shown frame span)) → (k ≡ length (readReply v o shown frame)) × (after ≡ sets buffer 0 (readReply v o shown frame))
+replied v o shown frame buffer span e h = rw e h
 
 read-in-requires : tie.Need-read-in-requires
 read-in-requires c κs = c .before .before .before .pre .0
@@ -69,7 +70,7 @@ returns c =
     let told = c .before .before .before .before .before .code .given in
     let code = told .0 .0 in
     let wrong : readIn (view s) (s .args .frame .now) ≡ Error code = sym j ∙ told .1 in
-    replied (view s) (shownOf (s .args .m)) (s .args .frame .now) (s .args .buffer .now) (Error code) wrong (c .before .before .put-error .ensures)
+    replied (view s) (s .args .m .given .order) (shownOf (s .args .m)) (s .args .frame .now) (s .args .buffer .now) (Error code) wrong (c .before .before .put-error .ensures)
 
 same-length-2 : tie.Need-same-length-2
 same-length-2 c = search needs
@@ -80,8 +81,8 @@ returns-2 c =
     let s = start (p .before) in
     let g = p .before .before .first .given .0 in
     let e = c .before .before .put-data .ensures in
-    let same = ap (λ (its : List Item). dataReply (s .args .frame .now) (itemsSent (shownOf (s .args .m)) its)) (ap items (p .part .ensures) ∙ asked (p .before) .holds) in
-    replied (view s) (shownOf (s .args .m)) (s .args .frame .now) (s .args .buffer .now) (Items (g .0) (g .1 .0)) (found (p .before)) (e .0 ∙ ap length same, e .1 ∙ ap (sets (s .args .buffer .now) 0) same)
+    let same = ap (λ (its : List Item). dataReply (s .args .frame .now) (itemsSent (s .args .m .given .order) (shownOf (s .args .m)) its)) (ap items (p .part .ensures) ∙ asked (p .before) .holds) in
+    replied (view s) (s .args .m .given .order) (shownOf (s .args .m)) (s .args .frame .now) (s .args .buffer .now) (Items (g .0) (g .1 .0)) (found (p .before)) (e .0 ∙ ap length same, e .1 ∙ ap (sets (s .args .buffer .now) 0) same)
 
 pub with-table-spec : {M : Type 1} → statement M
 with-table-spec =

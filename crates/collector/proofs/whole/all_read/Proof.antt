@@ -41,11 +41,11 @@ record Laid (ask : ℕ → Answer) (cells₀ numbers₀ cells numbers : List ℕ
   pub kinds : numbers ≡ sets numbers₀ 0 (map kindOf qs)
 
 abbrev Inv-loop : tie.InvT-loop
-Inv-loop asked reply tenths cells₀ numbers₀ n at₀ i₀ cells numbers at i =
-    (n ≡ length (items asked)) × (i ≤ n) × (at ≡ placeOf (items asked) i) × Laid (itemOf tenths (items asked) reply) cells₀ numbers₀ cells numbers i
+Inv-loop asked reply order tenths cells₀ numbers₀ n at₀ i₀ cells numbers at i =
+    (n ≡ length (items asked)) × (i ≤ n) × (at ≡ placeOf (items asked) i) × Laid (itemOf order tenths (items asked) reply) cells₀ numbers₀ cells numbers i
 
 abbrev μ-loop : tie.MeasureT-loop
-μ-loop asked reply tenths cells₀ numbers₀ n at₀ i₀ cells numbers at i = n - i
+μ-loop asked reply order tenths cells₀ numbers₀ n at₀ i₀ cells numbers at i = n - i
 
 loop-holds : tie.Need-loop-holds Inv-loop μ-loop
 unfolding inTurn wordsOf
@@ -61,7 +61,7 @@ its s = items (s .args .asked .now)
 
 -- the calls one by one
 abbrev ask : tie.Start Inv-loop μ-loop → ℕ → Answer
-ask s = itemOf (s .args .tenths) (its s) (s .args .reply .now)
+ask s = itemOf (s .args .order) (s .args .tenths) (its s) (s .args .reply .now)
 
 item-at-requires : tie.Need-item-at-requires Inv-loop μ-loop
 item-at-requires c κs = omega (arith, items-length (c .before .before .before .before .before .before .args .asked .now), c .before .loop .inv .0)
@@ -85,7 +85,7 @@ of-requires c κs =
     let r = c .before .before in
     let k = found r in
     let bytes = r .before .before .before .before .before .shared-slice-known2 .given in
-    ((k .shapely, k .means), rw (c .value-at .ensures) (value-fits (start r .args .reply .now) (λ i. omega (arith, bytes i)) (r .item-at .result .words) (r .before .before .loop .at)))
+    ((k .shapely, k .means), rw (c .value-at .ensures) (value-fits (start r .args .reply .now) (λ i. omega (arith, bytes i)) (start r .args .order) (r .item-at .result .words) (r .before .before .loop .at)))
 
 enum-known-answer : tie.Need-enum-known-answer Inv-loop μ-loop
 enum-known-answer c = search needs
@@ -116,9 +116,9 @@ read o =
     let s = start r in
     let l = r .before .before .loop in
     o .of .ensures
-    ∙ ap (readingOf (s .args .tenths) (r .item-at .result)) (o .before .value-at .ensures ∙ ap (valueAt (r .item-at .result .words) (s .args .reply .now)) (l .inv .2))
-    ∙ ap (λ (it : Item). readingOf (s .args .tenths) it (valueAt (it .words) (s .args .reply .now) (placeOf (its s) (l .i)))) (r .item-at .ensures)
-    ∙ sym (item-reads (s .args .tenths) (its s) (s .args .reply .now) (l .i) (below r))
+    ∙ ap (readingOf (s .args .tenths) (r .item-at .result)) (o .before .value-at .ensures ∙ ap (valueAt (s .args .order) (r .item-at .result .words) (s .args .reply .now)) (l .inv .2))
+    ∙ ap (λ (it : Item). readingOf (s .args .tenths) it (valueAt (s .args .order) (it .words) (s .args .reply .now) (placeOf (its s) (l .i)))) (r .item-at .ensures)
+    ∙ sym (item-reads (s .args .order) (s .args .tenths) (its s) (s .args .reply .now) (l .i) (below r))
 
 returns : tie.Need-returns Inv-loop μ-loop
 returns c =

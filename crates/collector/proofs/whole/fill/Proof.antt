@@ -31,11 +31,11 @@ its s = items (s .args .asked .now)
 
 -- what the calls one by one give
 abbrev answers : tie.Start → List Answer
-answers s = inTurn (length (its s)) (itemOf (s .args .tenths) (its s) (s .args .reply .now))
+answers s = inTurn (length (its s)) (itemOf (s .args .order) (s .args .tenths) (its s) (s .args .reply .now))
 
 -- as many as the table's part has items
 count : (s : tie.Start) → length (s .args .asked .now) / 4 ≡ length (answers s)
-count s = sym (items-length (s .args .asked .now)) ∙ sym (turns-length (length (its s)) (itemOf (s .args .tenths) (its s) (s .args .reply .now)))
+count s = sym (items-length (s .args .asked .now)) ∙ sym (turns-length (length (its s)) (itemOf (s .args .order) (s .args .tenths) (its s) (s .args .reply .now)))
 
 -- no row is shorter than the items
 abbrev within : tie.Else1 → tie.Start
@@ -87,8 +87,8 @@ none e = not-true _ (sym (e .before .before .before .all-read .ensures .0) ∙ a
 readings : (e : tie.Else2) → length (readingsIn (answers (start e))) ≡ length (start e .args .asked .now) / 4
 readings e =
     let s = start e in
-    let ask = itemOf (s .args .tenths) (its s) (s .args .reply .now) in
-    let r = turns-read (length (its s)) ask (λ i b. item-possible (s .args .tenths) (its s) (s .args .reply .now) i b) (none e) in
+    let ask = itemOf (s .args .order) (s .args .tenths) (its s) (s .args .reply .now) in
+    let r = turns-read (length (its s)) ask (λ i b. item-possible (s .args .order) (s .args .tenths) (its s) (s .args .reply .now) i b) (none e) in
     ap length (read-all (length (its s)) ask (r .0) (r .1)) ∙ read-length (length (its s)) ask (r .0) (r .1) ∙ items-length (s .args .asked .now)
 
 few : (e : tie.Else2) → length (start e .args .asked .now) / 4 ≤ 125

@@ -30,7 +30,7 @@ returns : tie.Need-returns
 unfolding directory flat
 returns c =
     let a = c .before .before .before .before .before .before .before .before .before .before .before .before .before .args in
-    allowed-by (ap (λ (v : View). wholeIn v (a .request .now) (a .reply .now) (a .ratios) (a .values .now) (a .kinds .now)) (own-view _ (c .before .before .before .before .before .before .before .reach .ensures))) (c .before .before .before .before .with-table .ensures)
+    allowed-by (ap (λ (v : View). wholeIn v (a .request .now) (a .reply .now) (a .plate) (a .values .now) (a .kinds .now)) (own-view _ (c .before .before .before .before .before .before .before .reach .ensures))) (c .before .before .before .before .with-table .ensures)
 
 pub read-whole-spec : {M : Type 1} → statement M
 read-whole-spec =

@@ -22,7 +22,7 @@ view s = viewOf (s .args .table .now) (s .args .reach)
 
 -- what request and reply are judged to be
 abbrev judged : tie.Start → Judgement
-judged s = judgedIn (view s) (s .args .request .now) (s .args .reply .now) (s .args .ratios)
+judged s = judgedIn (view s) (s .args .request .now) (s .args .reply .now) (s .args .plate .ratios)
 
 judge-requires : tie.Need-judge-requires
 judge-requires c κs = c .before .before .before .before .before .pre
@@ -38,7 +38,7 @@ found : (c : tie.After-known-told) → judged (start c) ≡ Items (c .before .ju
 found c = sym (c .before .before .before .judge .ensures) ∙ c .before .judged .given .1
 
 part : (c : tie.After-known-told) → DataPart (start c .args .table .now) (start c .args .reach) (start c .args .reply .now) (c .before .judged .given .0 .0) (c .before .judged .given .0 .1 .0)
-part c = data-part (start c .args .table .now) (start c .args .reach) (start c .pre) (start c .args .request .now) (start c .args .reply .now) (start c .args .ratios) _ _ (found c)
+part c = data-part (start c .args .table .now) (start c .args .reach) (start c .pre) (start c .args .request .now) (start c .args .reply .now) (start c .args .plate .ratios) _ _ (found c)
 
 part-requires : tie.Need-part-requires
 part-requires c κs = part c .inside
@@ -68,21 +68,21 @@ returns c =
     let k = c .before .before .before .before .before .before .before .before .before in
     let s = start k in
     let a = s .args in
-    let by : ℕ → List Item → Rows = λ t its. filledBy (inTurn (length its) (itemOf t its (a .reply .now))) (a .values .now) (a .kinds .now) in
-    let same = ap₂ by (c .before .before .before .before .before .before .before .tenths .ensures) (ap items (c .before .before .before .before .before .before .before .before .part .ensures) ∙ part k .holds) ∙ sym (whole-items (view s) (a .request .now) (a .reply .now) (a .ratios) (a .values .now) (a .kinds .now) _ _ (found k) (part k .seen)) in
+    let by : ℕ → List Item → Rows = λ t its. filledBy (inTurn (length its) (itemOf (a .plate .order) t its (a .reply .now))) (a .values .now) (a .kinds .now) in
+    let same = ap₂ by (c .before .before .before .before .before .before .before .tenths .ensures) (ap items (c .before .before .before .before .before .before .before .before .part .ensures) ∙ part k .holds) ∙ sym (whole-items (view s) (a .request .now) (a .reply .now) (a .plate) (a .values .now) (a .kinds .now) _ _ (found k) (part k .seen)) in
     allowed-by same (c .before .before .before .before .fill .ensures)
 
 returns-2 : tie.Need-returns-2
 returns-2 c =
     let s = c .before .before .before .before .before .before .before .before .before in
     let a = s .args in
-    allowed (sym (whole-coded (view s) (a .request .now) (a .reply .now) (a .ratios) (a .values .now) (a .kinds .now) _ (sym (c .before .before .before .judge .ensures) ∙ c .before .judged2 .given .1)))
+    allowed (sym (whole-coded (view s) (a .request .now) (a .reply .now) (a .plate) (a .values .now) (a .kinds .now) _ (sym (c .before .before .before .judge .ensures) ∙ c .before .judged2 .given .1)))
 
 returns-3 : tie.Need-returns-3
 returns-3 c =
     let s = c .before .before .before .before .before .before .before .before .before in
     let a = s .args in
-    allowed (sym (whole-refused (view s) (a .request .now) (a .reply .now) (a .ratios) (a .values .now) (a .kinds .now) _ (sym (c .before .before .before .judge .ensures) ∙ c .before .judged3 .given .1)))
+    allowed (sym (whole-refused (view s) (a .request .now) (a .reply .now) (a .plate) (a .values .now) (a .kinds .now) _ (sym (c .before .before .before .judge .ensures) ∙ c .before .judged3 .given .1)))
 
 pub with-table-spec : {M : Type 1} → statement M
 with-table-spec =
