@@ -110,26 +110,26 @@ module _ (v : View) (good : T (passes v)) where
       same-t : meterT m ≡ t
       same-t = ap (λ (g : Given). tOf (g .ratios)) (now .given)
 
-      polled : {q : ℕ} (p : Poll v (h .given) q) → Shows m q → collected v (h .given .ratios) m p ≡ Reading (meaningOf m q)
+      polled : {q : ℕ} (p : Poll v (h .given) q) → Shows m q → collected v m p ≡ Reading (meaningOf m q)
       polled p shows = poll-reads v good m (now .within) (now .given) p shows
 
-      pub counts : (p : Poll v (h .given) (quantity energyCount e)) → collected v (h .given .ratios) m p ≡ Reading (read.Energy (registerOf t whole) (stepOf t) (energyOf t (registerOf t whole .0)))
+      pub counts : (p : Poll v (h .given) (quantity energyCount e)) → collected v m p ≡ Reading (read.Energy (registerOf t whole) (stepOf t) (energyOf t (registerOf t whole .0)))
       counts p =
           polled p (count-shows m (now .within) e four)
           ∙ ap Reading (count-means m e four)
           ∙ (λ i. Reading (read.Energy (registerOf (same-t i) (same i)) (stepOf (same-t i)) (energyOf (same-t i) (registerOf (same-t i) (same i) .0))))
 
-      pub wraps : (p : Poll v (h .given) (quantity wrap e)) → collected v (h .given .ratios) m p ≡ Reading (read.Wrap (wrapOf t whole))
+      pub wraps : (p : Poll v (h .given) (quantity wrap e)) → collected v m p ≡ Reading (read.Wrap (wrapOf t whole))
       wraps p = polled p (wrap-shows m (now .within) e four) ∙ ap Reading (wrap-means m e four) ∙ (λ i. Reading (read.Wrap (wrapOf (same-t i) (same i))))
 
       -- no meter keeps more than the top
       pub most : whole .0 ≤ topWh
       most = rw (sym (ap (λ (x : WattHours). x .0) same)) (energy-most m e (now .within))
 
-      lows : (p : Poll v (h .given) (quantity low e)) → collected v (h .given .ratios) m p ≡ Reading (read.Low (lowOf whole))
+      lows : (p : Poll v (h .given) (quantity low e)) → collected v m p ≡ Reading (read.Low (lowOf whole))
       lows p = polled p (low-shows m (now .within) e four) ∙ ap Reading (low-means m e four) ∙ (λ i. Reading (read.Low (lowOf (same i))))
 
-      highs : (p : Poll v (h .given) (quantity high e)) → collected v (h .given .ratios) m p ≡ Reading (read.High (highOf whole))
+      highs : (p : Poll v (h .given) (quantity high e)) → collected v m p ≡ Reading (read.High (highOf whole))
       highs p = polled p (high-shows m (now .within) e four) ∙ ap Reading (high-means m e four) ∙ (λ i. Reading (read.High (highOf (same i))))
 
     -- ---- joined
@@ -137,7 +137,7 @@ module _ (v : View) (good : T (passes v)) where
     pub ratios-ok : ratiosOk (h .given .ratios) ≡ true
     ratios-ok = ap (λ (g : Given). ratiosOk (g .ratios)) (sym (then .given)) ∙ own-ratios (sooner v h) (then .within)
 
-    register-read : (m n : Meter) → Moment m → Moment n → (r : Poll v (h .given) (quantity energyCount e)) (w : Poll v (h .given) (quantity wrap e)) → RegisterRead v h e (collected v (h .given .ratios) m r) (collected v (h .given .ratios) n w)
+    register-read : (m n : Meter) → Moment m → Moment n → (r : Poll v (h .given) (quantity energyCount e)) (w : Poll v (h .given) (quantity wrap e)) → RegisterRead v h e (collected v m r) (collected v n w)
     register-read m n now thereafter r w = record {
       count = registerOf t whole;
       turns = wrapOf t whole;
@@ -148,7 +148,7 @@ module _ (v : View) (good : T (passes v)) where
       bounds = record { above = omega (arith, join-split .above t whole); below = omega (arith, join-split .below t whole) };
     }
 
-    halves-read : (m n : Meter) → Moment m → Moment n → (l : Poll v (h .given) (quantity low e)) (u : Poll v (h .given) (quantity high e)) → HalvesRead v h e (collected v (h .given .ratios) m l) (collected v (h .given .ratios) n u)
+    halves-read : (m n : Meter) → Moment m → Moment n → (l : Poll v (h .given) (quantity low e)) (u : Poll v (h .given) (quantity high e)) → HalvesRead v h e (collected v m l) (collected v n u)
     halves-read m n now thereafter l u = record {
       lows = lowOf whole;
       highs = highOf whole;

@@ -1,7 +1,7 @@
 -- Each part is proved in its own crate, or beside this file.
 use Rattle.refusal.proofs.Distinct.{one-reason-each}
 use Rattle.crc.proofs.Laws.{crc-fits, intact-is-sealed, put-seals}
-use Rattle.words.proofs.Laws.{byte-sent, read-back}
+use Rattle.words.proofs.Laws.{byte-sent, read-back, orders}
 use Rattle.words.proofs.Signs.{signed-back}
 use Rattle.lines.proofs.Texts.{text-back}
 use Rattle.ratio.proofs.Steps.{step-rows}
@@ -58,6 +58,7 @@ ground = record {
   put = put-seals;
   bytes = byte-sent;
   words = read-back;
+  orders = orders;
   signed = signed-back;
   steps = step-rows;
   directory = directory-rules;

@@ -33,7 +33,7 @@ module _ (v : View) where
   pub data Gives (m : Meter) (frame : List ℕ) (bytes : List ℕ) (n : Meter) : Type 0 where
     other : isRead frame ≡ false → writes m frame ≡ false → bytes ≡ errorReply frame Function → n ≡ m → Gives m frame bytes n
     misread : (code : ErrorCode) → isRead frame ≡ true → readIn (seenBy v m frame) frame ≡ Error code → bytes ≡ errorReply frame code → n ≡ m → Gives m frame bytes n
-    shows : (first count : ℕ) → isRead frame ≡ true → readIn (seenBy v m frame) frame ≡ Items first count → bytes ≡ dataReply frame (itemsSent (shownOf m) (runItems (seenBy v m frame .seen) first count)) → n ≡ m → Gives m frame bytes n
+    shows : (first count : ℕ) → isRead frame ≡ true → readIn (seenBy v m frame) frame ≡ Items first count → bytes ≡ dataReply frame (itemsSent (m .given .order) (shownOf m) (runItems (seenBy v m frame .seen) first count)) → n ≡ m → Gives m frame bytes n
     miswritten : (code : ErrorCode) → writes m frame ≡ true → writtenOf m frame .verdict ≡ Wrong code → bytes ≡ errorReply frame code → n ≡ m → Gives m frame bytes n
     stores : writes m frame ≡ true → writtenOf m frame .verdict ≡ Good → bytes ≡ echoReply frame → n ≡ storedOf m frame → Gives m frame bytes n
 
@@ -47,11 +47,11 @@ module _ (v : View) where
   module _ (m : Meter) (frame b : List ℕ) where
     given-read : isRead frame ≡ true → (span : Span) → readIn (seenBy v m frame) frame ≡ span → Given m frame b
     given-read r (Error code) e =
-        let same : readReply (seenBy v m frame) (shownOf m) frame ≡ errorReply frame code = ap (readBytes (seenBy v m frame) (shownOf m) frame) e in
-        record { bytes = readReply (seenBy v m frame) (shownOf m) frame; next = m; gives = misread code r e same refl; obeyed = obeys-read (seenBy v m frame) (not (toSecond (m .given) frame)) m frame b r }
+        let same : readReply (seenBy v m frame) (m .given .order) (shownOf m) frame ≡ errorReply frame code = ap (readBytes (seenBy v m frame) (m .given .order) (shownOf m) frame) e in
+        record { bytes = readReply (seenBy v m frame) (m .given .order) (shownOf m) frame; next = m; gives = misread code r e same refl; obeyed = obeys-read (seenBy v m frame) (not (toSecond (m .given) frame)) m frame b r }
     given-read r (Items first count) e =
-        let same : readReply (seenBy v m frame) (shownOf m) frame ≡ dataReply frame (itemsSent (shownOf m) (runItems (seenBy v m frame .seen) first count)) = ap (readBytes (seenBy v m frame) (shownOf m) frame) e in
-        record { bytes = readReply (seenBy v m frame) (shownOf m) frame; next = m; gives = shows first count r e same refl; obeyed = obeys-read (seenBy v m frame) (not (toSecond (m .given) frame)) m frame b r }
+        let same : readReply (seenBy v m frame) (m .given .order) (shownOf m) frame ≡ dataReply frame (itemsSent (m .given .order) (shownOf m) (runItems (seenBy v m frame .seen) first count)) = ap (readBytes (seenBy v m frame) (m .given .order) (shownOf m) frame) e in
+        record { bytes = readReply (seenBy v m frame) (m .given .order) (shownOf m) frame; next = m; gives = shows first count r e same refl; obeyed = obeys-read (seenBy v m frame) (not (toSecond (m .given) frame)) m frame b r }
 
     given-write : writes m frame ≡ true → (said : Verdict) → writtenOf m frame .verdict ≡ said → Given m frame b
     given-write w (Wrong code) e =

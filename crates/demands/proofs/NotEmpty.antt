@@ -95,7 +95,7 @@ module _ (v : View) (good : T (passes v)) where
   -- ---- the round trip over histories
 
   -- a meter within limits, as a program holds it
-  pub typed-poll : (g : Given) (m : Meter) → meterOk m ≡ true → m .given ≡ g → Typed m → (q : ℕ) (p : Poll v g q) → collected v (g .ratios) m p ≡ Reading (meaningOf m q)
+  pub typed-poll : (g : Given) (m : Meter) → meterOk m ≡ true → m .given ≡ g → Typed m → (q : ℕ) (p : Poll v g q) → collected v m p ≡ Reading (meaningOf m q)
   typed-poll g m within same typed q p =
       let tenant = toSecond g (p .request) in
       let its = asked-whole v good tenant (p .asks) in

@@ -14,9 +14,9 @@ use Rattle.refusal.specs.declared.ErrorCode.the-variants.{Function, Address}
 use Rattle.refusal.specs.Numbers.{refusedBy, errorBy}
 use Rattle.crc.specs.Crc.{crcOf, onLine}
 use Rattle.crc.proofs.Laws.{length-sealed, intact-is-sealed}
+use Rattle.words.specs.declared.Order.{Order}
 use Rattle.words.specs.Words.{sent, valueAt}
 use Rattle.words.proofs.Laws.{read-back}
-use Rattle.ratio.specs.declared.Ratios.{Ratios}
 use Rattle.ratio.specs.Ratios.{ratiosOk}
 use Rattle.directory.specs.declared.Item.{Item}
 use Rattle.directory.specs.declared.Span.the-variants.{Items, Error}
@@ -54,24 +54,25 @@ use Rattle.demands.proofs.Gives.Case.{out, short, unheeded, for-all, fo
 use Rattle.demands.proofs.Replies.{gives-long, gives-whole, echo-function}
 use Rattle.demands.proofs.Frames.{obeys, frames-when}
 use Rattle.demands.proofs.Seen.{to-own, named-address, whole}
+use Rattle.collector.specs.declared.Nameplate.{Nameplate}
 use Rattle.collector.specs.Collector.{heard, isReadError, placeOf, collectorIn}
 use Rattle.collector.specs.When.{Asks, Asked, Fits, itemAt, valueIn, ReplyGives}
 use Rattle.collector.proofs.Requests.{Hears, hears, heard-so}
 use Rattle.collector.proofs.Places.{run-length, run-at}
-use Rattle.collector.proofs.When.{replies-when}
+use Rattle.collector.proofs.When.{to-reading, replies-when}
 use Rattle.demands.specs.Meaning.{meaningOf}
 use Rattle.demands.proofs.Shown.{item-read}
-use Rattle.demands.specs.RoundTrip.{replyIn, Names, replyTo, Meets, WithData, RoundTrip}
+use Rattle.demands.specs.RoundTrip.{replyIn, Names, plateOf, replyTo, Meets, WithData, RoundTrip}
 use Rattle.demands.specs.Demand3.{Poll, collected}
 
 -- ---- the words of an item, among those of a run
 
-split : (shown : ℕ → ℕ) (its : List Item) (i : ℕ) → i < length its → itemsSent shown its ≡ itemsSent shown (take i its) ++ (sent (getD its i none .words) (shown (getD its i none .quantity)) ++ itemsSent shown (drop (suc i) its))
+split : (o : Order) (shown : ℕ → ℕ) (its : List Item) (i : ℕ) → i < length its → itemsSent o shown its ≡ itemsSent o shown (take i its) ++ (sent o (getD its i none .words) (shown (getD its i none .quantity)) ++ itemsSent o shown (drop (suc i) its))
 unfolding itemsSent
-split shown [] i l = absurd (omega (arith, l))
-split shown (it ∷ its) zero l = refl
-split shown (it ∷ its) (suc i) l =
-    ap (λ (x : List ℕ). sent (it .words) (shown (it .quantity)) ++ x) (split shown its i (omega (arith, l))) ∙ sym (append-assoc (sent (it .words) (shown (it .quantity))) _ _)
+split o shown [] i l = absurd (omega (arith, l))
+split o shown (it ∷ its) zero l = refl
+split o shown (it ∷ its) (suc i) l =
+    ap (λ (x : List ℕ). sent o (it .words) (shown (it .quantity)) ++ x) (split o shown its i (omega (arith, l))) ∙ sym (append-assoc (sent o (it .words) (shown (it .quantity))) _ _)
 
 -- a word is two bytes
 two-bytes : (n : ℕ) → n ≤ 2 → 256 ^ (2 * n) ≡ 65536 ^ n
@@ -111,8 +112,12 @@ module _ (v : View) (good : T (passes v)) where
     abbrev its : List Item
     its = runItems (v .seen) (a .first) (a .count)
 
+    -- the order of the meter
+    abbrev order : Order
+    order = m .given .order
+
     abbrev reply : List ℕ
-    reply = dataReply request (itemsSent (shownOf m) its)
+    reply = dataReply request (itemsSent order (shownOf m) its)
 
     h : Hears request
     h = hears request (a .hears)
@@ -125,19 +130,19 @@ module _ (v : View) (good : T (passes v)) where
     part = whole v good (toSecond (m .given) request) request (a .first) (a .count) seen .run
 
     gives : Gives v m request reply m
-    gives = shows (a .first) (a .count) (h .read) seen (ap (λ (l : List Item). dataReply request (itemsSent (shownOf m) l)) (sym part)) refl
+    gives = shows (a .first) (a .count) (h .read) seen (ap (λ (l : List Item). dataReply request (itemsSent order (shownOf m) l)) (sym part)) refl
 
     pub replies : replyTo v m request b ≡ reply
     replies =
-        let o = obeys v good m request b .reads (a .first) (a .count) answers (h .read) seen ∙ ap (λ (l : List Item). sentOf (dataReply request (itemsSent (shownOf m) l)) m b) part in
+        let o = obeys v good m request b .reads (a .first) (a .count) answers (h .read) seen ∙ ap (λ (l : List Item). sentOf (dataReply request (itemsSent order (shownOf m) l)) m b) part in
         ap (λ (x : Outcome). replyIn (x .handled .reply) (x .buffer)) o ∙ sets-taken b reply (omega (arith, gives-long v good m request reply m gives, meets .room))
 
     -- ---- as the collector judges it
 
     long : length reply ≡ 5 + 2 * wordNumber request
     long =
-        let bs = addressOf request ∷ functionOf request ∷ 2 * wordNumber request ∷ itemsSent (shownOf m) its in
-        length-sealed bs ∙ omega (arith, length-items (shownOf m) its, legal-read v good (a .items) .sends)
+        let bs = addressOf request ∷ functionOf request ∷ 2 * wordNumber request ∷ itemsSent order (shownOf m) its in
+        length-sealed bs ∙ omega (arith, length-items order (shownOf m) its, legal-read v good (a .items) .sends)
 
     ratios : ratiosOk (m .given .ratios) ≡ true
     ratios = own-ratios m (meets .within)
@@ -179,51 +184,56 @@ module _ (v : View) (good : T (passes v)) where
           let narrow = ruled-narrow (v .seen) (passes-ruled v good) (a .first + index) known in
           rw (sym (two-bytes (it .words) (narrow .few))) (lt-of-lt-of-le (in-room (v .seen) (passes-tested v good) (a .first + index) known (fit .fits)) (pow-le-pow-right (omega arith) room))
 
-      value-back : Shows m (it .quantity) → valueIn v a reply index ≡ shownOf m (it .quantity)
-      value-back fit =
-          let x = shownOf m (it .quantity) in
-          let before = addressOf request ∷ functionOf request ∷ 2 * wordNumber request ∷ itemsSent (shownOf m) (take index its) in
-          let after = itemsSent (shownOf m) (drop (suc index) its) in
-          let crc = onLine (crcOf (addressOf request ∷ functionOf request ∷ 2 * wordNumber request ∷ itemsSent (shownOf m) its)) in
+      -- ---- its words, where they stand
+
+      -- what is read where they stand, whatever stands before and behind them
+      value-as : (o : Order) (x : ℕ) → ((before after : List ℕ) → valueAt o (it .words) (before ++ sent order (it .words) (shownOf m (it .quantity)) ++ after) (length before) ≡ x) → valueIn v o a reply index ≡ x
+      value-as o x reads =
+          let words = sent order (it .words) (shownOf m (it .quantity)) in
+          let before = addressOf request ∷ functionOf request ∷ 2 * wordNumber request ∷ itemsSent order (shownOf m) (take index its) in
+          let after = itemsSent order (shownOf m) (drop (suc index) its) in
+          let crc = onLine (crcOf (addressOf request ∷ functionOf request ∷ 2 * wordNumber request ∷ itemsSent order (shownOf m) its)) in
           let same = run-at (v .seen) (a .first) (a .count) index below in
-          let parts : itemsSent (shownOf m) its ≡ itemsSent (shownOf m) (take index its) ++ (sent (it .words) x ++ after) =
-          split (shownOf m) its index (omega (arith, below, run-length (v .seen) (a .first) (a .count) inside)) ∙ ap (λ (x : Item). itemsSent (shownOf m) (take index its) ++ (sent (x .words) (shownOf m (x .quantity)) ++ after)) same in
-          let whole : reply ≡ before ++ sent (it .words) x ++ (after ++ crc) =
+          let parts : itemsSent order (shownOf m) its ≡ itemsSent order (shownOf m) (take index its) ++ (words ++ after) =
+          split order (shownOf m) its index (omega (arith, below, run-length (v .seen) (a .first) (a .count) inside)) ∙ ap (λ (x : Item). itemsSent order (shownOf m) (take index its) ++ (sent order (x .words) (shownOf m (x .quantity)) ++ after)) same in
+          let whole : reply ≡ before ++ words ++ (after ++ crc) =
           ap (λ (l : List ℕ). (addressOf request ∷ functionOf request ∷ 2 * wordNumber request ∷ l) ++ crc) parts
-          ∙ append-assoc before (sent (it .words) x ++ after) crc
-          ∙ ap (λ (l : List ℕ). before ++ l) (append-assoc (sent (it .words) x) after crc)
-          ∙ sym (append-assoc before (sent (it .words) x) (after ++ crc)) in
-          let here : placeOf its index ≡ length before = omega (arith, length-items (shownOf m) (take index its)) in
-          ap (λ (at : ℕ). valueAt (it .words) reply at) here
-          ∙ ap (λ (l : List ℕ). valueAt (it .words) l (length before)) whole
-          ∙ read-back .between (it .words) x before (after ++ crc) (fitting-words fit)
+          ∙ append-assoc before (words ++ after) crc
+          ∙ ap (λ (l : List ℕ). before ++ l) (append-assoc words after crc)
+          ∙ sym (append-assoc before words (after ++ crc)) in
+          let here : placeOf its index ≡ length before = omega (arith, length-items order (shownOf m) (take index its)) in
+          ap (λ (at : ℕ). valueAt o (it .words) reply at) here
+          ∙ ap (λ (l : List ℕ). valueAt o (it .words) l (length before)) whole
+          ∙ reads before (after ++ crc)
 
-      reads : Shows m (it .quantity) → collectorIn v request reply (m .given .ratios) index ≡ Reading (meaningOf m (it .quantity))
+      value-back : Shows m (it .quantity) → valueIn v order a reply index ≡ shownOf m (it .quantity)
+      value-back fit = value-as order (shownOf m (it .quantity)) (λ before after. read-back .between order (it .words) (shownOf m (it .quantity)) before after (fitting-words fit))
+
+      -- ---- and what the collector makes of them, through the bytes of the reply, told the ratios and some order
+
+      pub read-as : (o : Order) (x : ℕ) → valueIn v o a reply index ≡ x → collectorIn v request (replyTo v m request b) (record { ratios = m .given .ratios; order = o }) index ≡ readingOf (meterT m) it x
       unfolding fits
-      reads fit =
-          replies-when v good request reply (m .given .ratios) index .reading (meaningOf m (it .quantity)) .1
-          (record {
-            holds = record { fits = fits; below = below };
-            reading = ap (readingOf (meterT m) it) (value-back fit) ∙ item-read (v .seen) (passes-tested v good) m (meets .within) (a .first + index) known fit;
-          })
+      read-as o x e =
+          ap (λ (l : List ℕ). collectorIn v request l (record { ratios = m .given .ratios; order = o }) index) replies
+          ∙ to-reading v good request reply (record { ratios = m .given .ratios; order = o }) index (record { fits = fits; below = below })
+          ∙ ap (readingOf (meterT m) it) e
 
-      -- through the bytes of the reply
-      pub collects : Shows m (it .quantity) → collectorIn v request (replyTo v m request b) (m .given .ratios) index ≡ Reading (meaningOf m (it .quantity))
-      collects fit = ap (λ (x : List ℕ). collectorIn v request x (m .given .ratios) index) replies ∙ reads fit
+      pub collects : Shows m (it .quantity) → collectorIn v request (replyTo v m request b) (plateOf (m .given)) index ≡ Reading (meaningOf m (it .quantity))
+      collects fit = read-as order _ (value-back fit) ∙ item-read (v .seen) (passes-tested v good) m (meets .within) (a .first + index) known fit
 
       -- what the item shows stands in the reply
-      pub value-read : Shows m (it .quantity) → valueIn v a (replyTo v m request b) index ≡ shownOf m (it .quantity)
-      value-read fit = ap (λ (x : List ℕ). valueIn v a x index) replies ∙ value-back fit
+      pub value-read : Shows m (it .quantity) → valueIn v order a (replyTo v m request b) index ≡ shownOf m (it .quantity)
+      value-read fit = ap (λ (x : List ℕ). valueIn v order a x index) replies ∙ value-back fit
 
-    pub past : (index : ℕ) → a .count ≤ index → ReplyGives v request reply (m .given .ratios) index (refusedBy 12)
+    pub past : (index : ℕ) → a .count ≤ index → ReplyGives v request reply (plateOf (m .given)) index (refusedBy 12)
     unfolding fits
-    past index over = replies-when v good request reply (m .given .ratios) index .row-12 .1 (record { fits = fits; past = over })
+    past index over = replies-when v good request reply (plateOf (m .given)) index .row-12 .1 (record { fits = fits; past = over })
 
   -- ---- an error reply to such a request
 
-  error-given : (request : List ℕ) (r : Ratios) (index code : ℕ) → Asked v request r → 1 ≤ code → code ≤ 3 → ReplyGives v request (errorBytes request code) r index (errorBy code)
-  error-given request r index code asked some most =
-      replies-when v good request reply r index .error code .1
+  error-given : (request : List ℕ) (plate : Nameplate) (index code : ℕ) → Asked v request (plate .ratios) → 1 ≤ code → code ≤ 3 → ReplyGives v request (errorBytes request code) plate index (errorBy code)
+  error-given request plate index code asked some most =
+      replies-when v good request reply plate index .error code .1
       (record {
         sound = record {
           asked = asked;
@@ -312,15 +322,15 @@ module _ (v : View) (good : T (passes v)) where
           let w = asks a in
           collects m request b meets w (a .items) index below (typed-shows (v .seen) (passes-tested v good) (a .first + index) (known m request b meets w (a .items) index below) m typed (meets .within))
           ∙ ap (λ (it : Item). Reading (meaningOf m (it .quantity))) (sym (whole v good (toSecond (m .given) request) request (a .first) (a .count) (a .items) .item index below));
-      past = λ index a over. ap (λ (reply : List ℕ). told (collectorIn v request reply (m .given .ratios) index)) (replies m request b meets (asks a) (a .items)) ∙ past m request b meets (asks a) (a .items) index over;
+      past = λ index a over. ap (λ (reply : List ℕ). told (collectorIn v request reply (plateOf (m .given)) index)) (replies m request b meets (asks a) (a .items)) ∙ past m request b meets (asks a) (a .items) index over;
       error = error-given request;
-      other = λ reply r index ok own h. replies-when v good request reply r index .row-7 .1 (ok, λ a. false≢true (sym h ∙ with-data .own own .0 a));
-      not-for-tenant = λ r index asked h. ap (λ (x : List ℕ). told (collectorIn v request x r index)) (refused (asked .asks) h) ∙ error-given request r index 2 asked (omega arith) (omega arith);
+      other = λ reply plate index ok own h. replies-when v good request reply plate index .row-7 .1 (ok, λ a. false≢true (sym h ∙ with-data .own own .0 a));
+      not-for-tenant = λ plate index asked h. ap (λ (x : List ℕ). told (collectorIn v request x plate index)) (refused (asked .asks) h) ∙ error-given request plate index 2 asked (omega arith) (omega arith);
     }
 
-  -- ---- a poll, told the ratios that the meter was given
+  -- ---- a poll, told the nameplate of the meter
 
-  pub poll-reads : (m : Meter) {g : Given} → meterOk m ≡ true → m .given ≡ g → {q : ℕ} (p : Poll v g q) → Shows m q → collected v (g .ratios) m p ≡ Reading (meaningOf m q)
+  pub poll-reads : (m : Meter) {g : Given} → meterOk m ≡ true → m .given ≡ g → {q : ℕ} (p : Poll v g q) → Shows m q → collected v m p ≡ Reading (meaningOf m q)
   poll-reads m {g} within given {q} p fit =
       let tenant = toSecond g (p .request) in
       let same = ap (λ (x : Given). toSecond x (p .request)) given in
@@ -328,6 +338,6 @@ module _ (v : View) (good : T (passes v)) where
       let seen : readIn (seenBy v m (p .request)) (p .request) ≡ Items (p .asks .first) (p .asks .count) = ap (λ (t : Bool). readIn (viewFor v t) (p .request)) same ∙ p .asks .items in
       let item : itemAt v (asked-whole tenant (p .asks)) (p .index) .quantity ≡ q =
       ap (λ (it : Item). it .quantity) (sym (whole v good tenant (p .request) (p .asks .first) (p .asks .count) (p .asks .items) .item (p .index) (p .below))) ∙ p .shows in
-      ap (λ (x : Given). collectorIn v (p .request) (replyTo v m (p .request) (p .buffer)) (x .ratios) (p .index)) (sym given)
+      ap (λ (x : Given). collectorIn v (p .request) (replyTo v m (p .request) (p .buffer)) (plateOf x) (p .index)) (sym given)
       ∙ collects m (p .request) (p .buffer) meets (asked-whole tenant (p .asks)) seen (p .index) (p .below) (rw item fit)
       ∙ ap (λ (x : ℕ). Reading (meaningOf m x)) item

@@ -90,8 +90,8 @@ module _ (v : View) (good : T (passes v)) where
 
     pub gives-reply : Heeds m frame b → (bytes : List ℕ) (n : Meter) → Gives v m frame bytes n → boardIn v m frame b ≡ sentOrSilent frame bytes n b
     gives-reply h bytes n (other r w e k) = rw (e, k) (obeyed h ∙ sym (obeys-other (seenBy v m frame) (not (toSecond (m .given) frame)) m frame b r w))
-    gives-reply h bytes n (misread code r s e k) = rw (e, k) (obeyed h ∙ sym (obeys-read (seenBy v m frame) (not (toSecond (m .given) frame)) m frame b r) ∙ ap (λ (x : List ℕ). sentOrSilent frame x m b) (ap (readBytes (seenBy v m frame) (shownOf m) frame) s))
-    gives-reply h bytes n (shows first count r s e k) = rw (e, k) (obeyed h ∙ sym (obeys-read (seenBy v m frame) (not (toSecond (m .given) frame)) m frame b r) ∙ ap (λ (x : List ℕ). sentOrSilent frame x m b) (ap (readBytes (seenBy v m frame) (shownOf m) frame) s))
+    gives-reply h bytes n (misread code r s e k) = rw (e, k) (obeyed h ∙ sym (obeys-read (seenBy v m frame) (not (toSecond (m .given) frame)) m frame b r) ∙ ap (λ (x : List ℕ). sentOrSilent frame x m b) (ap (readBytes (seenBy v m frame) (m .given .order) (shownOf m) frame) s))
+    gives-reply h bytes n (shows first count r s e k) = rw (e, k) (obeyed h ∙ sym (obeys-read (seenBy v m frame) (not (toSecond (m .given) frame)) m frame b r) ∙ ap (λ (x : List ℕ). sentOrSilent frame x m b) (ap (readBytes (seenBy v m frame) (m .given .order) (shownOf m) frame) s))
     gives-reply h bytes n (miswritten code w j e k) =
         let o = obeyed h ∙ sym (obeys-write (seenBy v m frame) (not (toSecond (m .given) frame)) m frame b w) in
         rw (e, k) (o ∙ rw (write-when m frame .kept code j, j) refl)
@@ -110,7 +110,7 @@ module _ (v : View) (good : T (passes v)) where
   pub gives-long : (m : Meter) (frame bytes : List ℕ) (n : Meter) → Gives v m frame bytes n → length bytes ≤ 256
   gives-long m frame bytes n (other r w e k) = rw e (omega arith)
   gives-long m frame bytes n (misread code r s e k) = rw e (omega arith)
-  gives-long m frame bytes n (shows first count r s e k) = rw e (data-long (seenBy v m frame) (seen-passes v good m frame) (shownOf m) frame first count s)
+  gives-long m frame bytes n (shows first count r s e k) = rw e (data-long (seenBy v m frame) (seen-passes v good m frame) (m .given .order) (shownOf m) frame first count s)
   gives-long m frame bytes n (miswritten code w j e k) = rw e (omega arith)
   gives-long m frame bytes n (stores w j e k) = rw e (echo-long frame)
 
@@ -118,7 +118,7 @@ module _ (v : View) (good : T (passes v)) where
   gives-sealed m frame bytes n (other r w e k) = error-sealed frame Function bytes e
   gives-sealed m frame bytes n (misread code r s e k) = error-sealed frame code bytes e
   gives-sealed m frame bytes n (shows first count r s e k) =
-      record { before = addressOf frame ∷ functionOf frame ∷ 2 * wordNumber frame ∷ itemsSent (shownOf m) (runItems (seenBy v m frame .seen) first count); is = e }
+      record { before = addressOf frame ∷ functionOf frame ∷ 2 * wordNumber frame ∷ itemsSent (m .given .order) (shownOf m) (runItems (seenBy v m frame .seen) first count); is = e }
   gives-sealed m frame bytes n (miswritten code w j e k) = error-sealed frame code bytes e
   gives-sealed m frame bytes n (stores w j e k) = record { before = take 6 frame; is = e }
 
@@ -136,7 +136,7 @@ module _ (v : View) (good : T (passes v)) where
   faults m frame bytes n code (other r w e k) h = unknown r w (one-code frame Function code (sym e ∙ h))
   faults m frame bytes n code (misread c r s e k) h = bad-read (r, s ∙ ap Error (one-code frame c code (sym e ∙ h)))
   faults m frame bytes n code (shows first count r s e k) h =
-      not-data frame (itemsSent (shownOf m) (runItems (seenBy v m frame .seen) first count)) code (sym e ∙ h)
+      not-data frame (itemsSent (m .given .order) (shownOf m) (runItems (seenBy v m frame .seen) first count)) code (sym e ∙ h)
   faults m frame bytes n code (miswritten c w j e k) h = bad-write (w, j ∙ ap Wrong (one-code frame c code (sym e ∙ h)))
   faults m frame bytes n code (stores w j e k) h =
       not-echo frame code (omega (arith, shaped-length frame (write-when m frame .legal .0 j .0) .0)) (sym e ∙ h)

@@ -1,6 +1,6 @@
 -- A tenant's frame is judged over the items for it, and may not write; what these show is all that its replies are made of. The four energies, the
 -- sample, the ratios and three of request 1's figures are all that is shown but setup.
-use mathlib.Core.Path.{_≡_, refl, sym, ap, _∙_}
+use mathlib.Core.Path.{_≡_, refl, sym, ap, ap₂, _∙_}
 use mathlib.Core.Logic.{_⊎_, inl, inr}
 use mathlib.Core.Bool.{Bool, true, false, _&&_, _||_, not, cond, and-false, false≢true}
 use mathlib.Core.List.{List, [], _∷_, _++_}
@@ -13,6 +13,7 @@ use borrow.Author.Tests.{le-ltb, lt-ltb, le-leb, lt-leb, leb-false, eq-eqb, ne-e
 use Rattle.refusal.specs.declared.ErrorCode.the-variants.{Function}
 use Rattle.crc.specs.Crc.{intact}
 use Rattle.crc.proofs.Laws.{intact-is-sealed}
+use Rattle.words.specs.declared.Order.{Order}
 use Rattle.words.specs.Words.{sent}
 use Rattle.ratio.specs.Ratios.{tOf}
 use Rattle.ratio.specs.Powers.{powerLimit}
@@ -82,7 +83,7 @@ module _ (m n : Meter) (a : Alike m n) where
       λ i.
       shownOf
       (record {
-        given = record { address = m .given .address; second = m .given .second; ratios = a .ratios i };
+        given = record { address = m .given .address; second = m .given .second; ratios = a .ratios i; order = m .given .order };
         counters = record {
           active = record {
             positive = record { wh = a .energies 0 i; remainder = m .counters .active .positive .remainder };
@@ -113,13 +114,13 @@ open-quantity q h =
 
 -- ---- the words of items that show the same
 
-items-same : (f g : ℕ → ℕ) (its : List Item) → ((i : ℕ) → i < length its → f (getD its i none .quantity) ≡ g (getD its i none .quantity)) → itemsSent f its ≡ itemsSent g its
+items-same : (o : Order) (f g : ℕ → ℕ) (its : List Item) → ((i : ℕ) → i < length its → f (getD its i none .quantity) ≡ g (getD its i none .quantity)) → itemsSent o f its ≡ itemsSent o g its
 unfolding itemsSent
-items-same f g [] same = refl
-items-same f g (it ∷ its) same =
+items-same o f g [] same = refl
+items-same o f g (it ∷ its) same =
     let first = same 0 (omega arith) in
-    let rest = items-same f g its (λ i l. same (suc i) (omega (arith, l))) in
-    λ i. sent (it .words) (first i) ++ rest i
+    let rest = items-same o f g its (λ i l. same (suc i) (omega (arith, l))) in
+    λ i. sent o (it .words) (first i) ++ rest i
 
 -- ---- a frame to the second address, of which two meters have the same
 
@@ -150,21 +151,21 @@ also-second m n frame e t =
     to-second (n .given) frame (λ z. second-some (m .given) frame t (e ∙ z)) (second-named (m .given) frame t ∙ e)
 
 module _ (v : View) (good : T (passes v)) where
-  -- ---- two meters that show a tenant the same
+  -- ---- two meters of one order that show a tenant the same
 
-  module _ (m n : Meter) (same : ShowTheSame v m n) (frame : List ℕ) (t : toSecond (m .given) frame ≡ true) (u : toSecond (n .given) frame ≡ true) where
+  module _ (m n : Meter) (eo : m .given .order ≡ n .given .order) (same : ShowTheSame v m n) (frame : List ℕ) (t : toSecond (m .given) frame ≡ true) (u : toSecond (n .given) frame ≡ true) where
     both-see : seenBy v m frame ≡ seenBy v n frame
     both-see = second-seen m frame t v ∙ sym (second-seen n frame u v)
 
-    run-same : (first count : ℕ) → readIn (seenBy v m frame) frame ≡ Items first count → itemsSent (shownOf m) (runItems (seenBy v m frame .seen) first count) ≡ itemsSent (shownOf n) (runItems (seenBy v n frame .seen) first count)
+    run-same : (first count : ℕ) → readIn (seenBy v m frame) frame ≡ Items first count → itemsSent (m .given .order) (shownOf m) (runItems (seenBy v m frame .seen) first count) ≡ itemsSent (n .given .order) (shownOf n) (runItems (seenBy v n frame .seen) first count)
     run-same first count s =
         let w = tenantOf v in
         let read : readIn w frame ≡ Items first count = ap (λ (x : View). readIn x frame) (sym (second-seen m frame t v)) ∙ s in
         let inside = legal-read w (tenant-passes v good) read .inside in
         let long = run-length (w .seen) first count inside in
-        ap (λ (x : View). itemsSent (shownOf m) (runItems (x .seen) first count)) (second-seen m frame t v)
-        ∙ items-same (shownOf m) (shownOf n) (runItems (w .seen) first count) (λ i l. at first count inside i (omega (arith, l, long)))
-        ∙ ap (λ (x : View). itemsSent (shownOf n) (runItems (x .seen) first count)) (sym (second-seen n frame u v))
+        ap (λ (x : View). itemsSent (m .given .order) (shownOf m) (runItems (x .seen) first count)) (second-seen m frame t v)
+        ∙ items-same (m .given .order) (shownOf m) (shownOf n) (runItems (w .seen) first count) (λ i l. at first count inside i (omega (arith, l, long)))
+        ∙ ap₂ (λ (o : Order) (x : View). itemsSent o (shownOf n) (runItems (x .seen) first count)) eo (sym (second-seen n frame u v))
       where
         at : (first count : ℕ) → first + count ≤ length (tenantOf v .seen) → (i : ℕ) → i < count → shownOf m (getD (runItems (tenantOf v .seen) first count) i none .quantity) ≡ shownOf n (getD (runItems (tenantOf v .seen) first count) i none .quantity)
         at first count inside i l =
@@ -210,14 +211,14 @@ module _ (v : View) (good : T (passes v)) where
                 ∙ sym (ap (λ (o : Outcome). replyIn (o .handled .reply) (o .buffer)) there ∙ sets-taken b bytes (omega (arith, long, rb)));
           }
 
-  no-more : (m n : Meter) → meterOk m ≡ true → meterOk n ≡ true → m .given .second ≡ n .given .second → ShowTheSame v m n → SameToTenant v m n
-  no-more m n hm hn e2 same frame a b named ra rb =
+  no-more : (m n : Meter) → meterOk m ≡ true → meterOk n ≡ true → m .given .second ≡ n .given .second → m .given .order ≡ n .given .order → ShowTheSame v m n → SameToTenant v m n
+  no-more m n hm hn e2 eo same frame a b named ra rb =
       let t = named-second m frame named in
-      same-reply m n same frame t (also-second m n frame e2 t) a b hm hn e2 ra rb (case v m frame a)
+      same-reply m n eo same frame t (also-second m n frame e2 t) a b hm hn e2 ra rb (case v m frame a)
 
   alike : T (hides v) → (m n : Meter) → meterOk m ≡ true → meterOk n ≡ true → Alike m n → SameToTenant v m n
   alike h m n hm hn a =
-      no-more m n hm hn (a .second) (λ i l. same-shown m n a _ (open-quantity _ (every-at (λ (it : Item). not (hidden (it .quantity))) (tenantOf v .seen) h i l)))
+      no-more m n hm hn (a .second) (a .order) (λ i l. same-shown m n a _ (open-quantity _ (every-at (λ (it : Item). not (hidden (it .quantity))) (tenantOf v .seen) h i l)))
 
   -- a record that a frame leaves with the same code is alike
   left-alike : (m : Meter) (frame b : List ℕ) → codeOf (boardIn v m frame b .handled .meter .setup) ≡ codeOf (m .setup) → Alike m (boardIn v m frame b .handled .meter)
@@ -228,6 +229,7 @@ module _ (v : View) (good : T (passes v)) where
       record {
         second = ap (λ (g : Given). g .second) (rest .0);
         ratios = ap (λ (g : Given). g .ratios) (rest .0);
+        order = ap (λ (g : Given). g .order) (rest .0);
         latest = rest .2;
         energies = λ e. counted n e (rest .1);
         average = ap (λ (a : Average). a .last) figures;
@@ -267,7 +269,7 @@ module _ (v : View) (good : T (passes v)) where
     abbrev asks : Asks v request
     asks = asked-whole v good true tenant-read
 
-    stands : (x : Meter) → meterOk x ≡ true → Typed x → address ≡ x .given .second → valueIn v asks (replyTo v x request b) 0 ≡ shownOf x (it .quantity)
+    stands : (x : Meter) → meterOk x ≡ true → Typed x → address ≡ x .given .second → valueIn v (x .given .order) asks (replyTo v x request b) 0 ≡ shownOf x (it .quantity)
     stands x ok typed e =
         let t : toSecond (x .given) request ≡ true = to-second (x .given) request (λ z. some (e ∙ z)) e in
         let place : i + 0 ≡ i = omega arith in
@@ -277,14 +279,14 @@ module _ (v : View) (good : T (passes v)) where
         value-read v good x request b (record { within = ok; room = room; named = inr t }) asks seen 0 (omega arith) (typed-shows (v .seen) (passes-tested v good) (i + 0) known x typed ok)
         ∙ ap (λ (y : Item). shownOf x (y .quantity)) here
 
-  no-less : (m n : Meter) → meterOk m ≡ true → meterOk n ≡ true → Typed m → Typed n → m .given .second ≡ n .given .second → (m .given .second ≡ 0 → ⊥) → SameToTenant v m n → ShowTheSame v m n
-  no-less m n hm hn tm tn e2 some same i l =
+  no-less : (m n : Meter) → meterOk m ≡ true → meterOk n ≡ true → Typed m → Typed n → m .given .second ≡ n .given .second → m .given .order ≡ n .given .order → (m .given .second ≡ 0 → ⊥) → SameToTenant v m n → ShowTheSame v m n
+  no-less m n hm hn tm tn e2 eo some same i l =
       let b : List ℕ = replicate 256 0 in
       let room : 256 ≤ length b = omega arith in
       let address = m .given .second in
       let r = request address i some l b room in
       sym (stands address i some l b room m hm tm refl)
-      ∙ ap (λ (reply : List ℕ). valueIn v (asks address i some l b room) reply 0) (same r b b (record { some = some; named = refl }) room room .bytes)
+      ∙ ap₂ (λ (o : Order) (reply : List ℕ). valueIn v o (asks address i some l b room) reply 0) eo (same r b b (record { some = some; named = refl }) room room .bytes)
       ∙ stands address i some l b room n hn tn e2
 
   pub tenant-learns : TenantLearns v
@@ -320,13 +322,13 @@ module _ (v : View) (good : T (passes v)) where
     unknown : Sound frame → functionOf frame < 0x80 → (functionOf frame ≡ 0x03 → ⊥) → boardIn v m frame b ≡ sentOf (errorBytes frame 1) m b
     unknown s f n = gives-sent v good m frame b (heeds s f) (errorReply frame Function) m (other (ne-eqb _ _ n) (second-reads m frame t) refl refl)
 
-    reads : Sound frame → functionOf frame ≡ 0x03 → boardIn v m frame b ≡ sentOf (readReply (tenantOf v) (shownOf m) frame) m b
+    reads : Sound frame → functionOf frame ≡ 0x03 → boardIn v m frame b ≡ sentOf (readReply (tenantOf v) (m .given .order) (shownOf m) frame) m b
     reads s f =
         let a = heeds s (omega (arith, f)) in
         let read : isRead frame ≡ true = eq-eqb _ _ f in
         sym (board-obeys v m frame b (from .within) (le-ltb _ _ (from .room)) (a .heeds .heard))
         ∙ sym (obeys-read (viewFor v (toSecond (m .given) frame)) (not (toSecond (m .given) frame)) m frame b read)
-        ∙ rw (ne-eqb (addressOf frame) 0 (a .own)) (ap (λ (w : View). sentOf (readReply w (shownOf m) frame) m b) (second-seen m frame t v))
+        ∙ rw (ne-eqb (addressOf frame) 0 (a .own)) (ap (λ (w : View). sentOf (readReply w (m .given .order) (shownOf m) frame) m b) (second-seen m frame t v))
 
     -- a reply begins with the address of the frame
     begins : (bytes : List ℕ) (x : Meter) → Gives v m frame bytes x → addressOf bytes ≡ addressOf frame
@@ -407,7 +409,7 @@ unfolding meterOk sampleOk inForce powerLimit averageOk codedMinutes groupOk wor
 unlike-but-alike = record {
   plain = refl;
   other = refl;
-  alike = record { second = refl; ratios = refl; latest = refl; energies = four-alike; average = refl; peak = refl; seconds = refl };
+  alike = record { second = refl; ratios = refl; order = refl; latest = refl; energies = four-alike; average = refl; peak = refl; seconds = refl };
 }
   where
     four-alike : (e : ℕ) → energyAt e plainMeter .wh ≡ energyAt e otherMeter .wh

@@ -35,7 +35,7 @@ use Rattle.meter.specs.declared.given.Given.{Given}
 use Rattle.meter.specs.declared.Meter.{Meter}
 use Rattle.meter.specs.Meters.{newOf}
 use Rattle.demands.specs.Meaning.{meaningOf}
-use Rattle.demands.specs.RoundTrip.{replyTo}
+use Rattle.demands.specs.RoundTrip.{plateOf, replyTo}
 use Rattle.demands.specs.Histories.{afterAll}
 use Rattle.demands.specs.Demand3.{History, sooner, later, Poll, collected, RegisterRead, HalvesRead}
 use Rattle.demands.specs.Wholes.{TwoRows, readWhole, GivesWhole, quantityAt, Room, NoRoom, AllCells, WholeAlways, RegisterWhole, HalvesWhole, WholeDemand3}
@@ -60,13 +60,13 @@ module _ (v : View) (good : T (passes v)) where
     at : (index : ℕ) → index < n → Poll v g (quantityAt v m p rows index)
     at index b = record { request = p .request; buffer = p .buffer; index = index; asks = p .asks; named = p .named; room = p .room; below = b; shows = refl }
 
-    reads : (index : ℕ) → index < n → collectorIn v (p .request) reply (g .ratios) index ≡ Reading (meaningOf m (quantityAt v m p rows index))
+    reads : (index : ℕ) → index < n → collectorIn v (p .request) reply (plateOf g) index ≡ Reading (meaningOf m (quantityAt v m p rows index))
     unfolding at
     reads index b = typed-poll v good g m (held .within) (held .given) (held .typed) (quantityAt v m p rows index) (at index b)
 
     -- the reply fits
     fits : Fits v (p .request) reply (g .ratios)
-    fits = replies-when v good (p .request) reply (g .ratios) (p .index) .reading (meaningOf m (quantityAt v m p rows (p .index))) .0 (reads (p .index) (p .below)) .holds .fits
+    fits = replies-when v good (p .request) reply (plateOf g) (p .index) .reading (meaningOf m (quantityAt v m p rows (p .index))) .0 (reads (p .index) (p .below)) .holds .fits
 
     -- and the items are those asked for
     same : askedBy v fits .count ≡ n
@@ -74,14 +74,14 @@ module _ (v : View) (good : T (passes v)) where
 
     all : Room v m p rows → GivesWhole v m p rows (0 ∷ n ∷ [])
     all room =
-        let a = all-given v good (p .request) reply (g .ratios) (rows .values) (rows .kinds) fits (omega (arith, same, room .values-room)) (omega (arith, same, room .kinds-room)) (λ i b. (_, reads i (omega (arith, b, same)))) in
-        whole-when v good (p .request) reply (g .ratios) (rows .values) (rows .kinds) .items (askedBy v fits .count) .1 a ∙ ap (λ (k : ℕ). 0 ∷ k ∷ []) same
+        let a = all-given v good (p .request) reply (plateOf g) (rows .values) (rows .kinds) fits (omega (arith, same, room .values-room)) (omega (arith, same, room .kinds-room)) (λ i b. (_, reads i (omega (arith, b, same)))) in
+        whole-when v good (p .request) reply (plateOf g) (rows .values) (rows .kinds) .items (askedBy v fits .count) .1 a ∙ ap (λ (k : ℕ). 0 ∷ k ∷ []) same
 
     -- the cells of an item are those of its reading
-    cells : Room v m p rows → (index : ℕ) → index < n → CellsOf v (p .request) reply (g .ratios) (rows .values) (rows .kinds) index
-    cells room index b = one-by-one v good (p .request) reply (g .ratios) (rows .values) (rows .kinds) .each n (all room) index b
+    cells : Room v m p rows → (index : ℕ) → index < n → CellsOf v (p .request) reply (plateOf g) (rows .values) (rows .kinds) index
+    cells room index b = one-by-one v good (p .request) reply (plateOf g) (rows .values) (rows .kinds) .each n (all room) index b
 
-    cells-are : (room : Room v m p rows) (index : ℕ) (b : index < n) (x : Quantity) → collectorIn v (p .request) reply (g .ratios) index ≡ Reading x → (getD (readWhole v m p rows .values) index 0 ≡ cellOf x) × (getD (readWhole v m p rows .kinds) index 0 ≡ kindOf x)
+    cells-are : (room : Room v m p rows) (index : ℕ) (b : index < n) (x : Quantity) → collectorIn v (p .request) reply (plateOf g) index ≡ Reading x → (getD (readWhole v m p rows .values) index 0 ≡ cellOf x) × (getD (readWhole v m p rows .kinds) index 0 ≡ kindOf x)
     cells-are room index b x h =
         let c = cells room index b in
         let is : c .reading ≡ x = ap (quantityIn x) (sym (c .given) ∙ h) in
@@ -95,7 +95,7 @@ module _ (v : View) (good : T (passes v)) where
     }
 
     short : NoRoom v m p rows → GivesWhole v m p rows (refusedBy 15)
-    short none = whole-when v good (p .request) reply (g .ratios) (rows .values) (rows .kinds) .row-15 .1 (record { fits = fits; short = by none })
+    short none = whole-when v good (p .request) reply (plateOf g) (rows .values) (rows .kinds) .row-15 .1 (record { fits = fits; short = by none })
       where
         by : NoRoom v m p rows → (length (rows .values) < askedBy v fits .count) ⊎ (length (rows .kinds) < askedBy v fits .count)
         by (inl h) = inl (omega (arith, h, same))
@@ -120,7 +120,7 @@ module _ (v : View) (good : T (passes v)) where
   -- ---- demand 3, of cells
 
   module _ (h : History v) (e : ℕ) (m n : Meter) (first : Held v good (h .given) m) (second : Held v good (h .given) n) where
-    register-whole : ((r : Poll v (h .given) (quantity energyCount e)) (w : Poll v (h .given) (quantity wrap e)) → RegisterRead v h e (collected v (h .given .ratios) m r) (collected v (h .given .ratios) n w)) → RegisterWhole v h e m n
+    register-whole : ((r : Poll v (h .given) (quantity energyCount e)) (w : Poll v (h .given) (quantity wrap e)) → RegisterRead v h e (collected v m r) (collected v n w)) → RegisterWhole v h e m n
     register-whole one r w a b ra rb =
         let t = one r w in
         let x = cells-are m first r a ra (r .index) (r .below) _ (t .reads) in
@@ -133,7 +133,7 @@ module _ (v : View) (good : T (passes v)) where
           bounds = t .bounds;
         }
 
-    halves-whole : ((l : Poll v (h .given) (quantity low e)) (u : Poll v (h .given) (quantity high e)) → HalvesRead v h e (collected v (h .given .ratios) m l) (collected v (h .given .ratios) n u)) → HalvesWhole v h e m n
+    halves-whole : ((l : Poll v (h .given) (quantity low e)) (u : Poll v (h .given) (quantity high e)) → HalvesRead v h e (collected v m l) (collected v n u)) → HalvesWhole v h e m n
     halves-whole one l u a b ra rb =
         let t = one l u in
         let x = cells-are m first l a ra (l .index) (l .below) _ (t .reads) in

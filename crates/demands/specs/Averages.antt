@@ -108,12 +108,12 @@ module _ (v : View) where
     pub record AveragesRead : Type 0 where
       pub average-read :
           (p : Poll v g (quantity power average)) →
-          collected v (g .ratios) meterNow p ≡ Reading (read.Power (roundedPower (tOf (g .ratios)) (lastIn layoutOf)))
+          collected v meterNow p ≡ Reading (read.Power (roundedPower (tOf (g .ratios)) (lastIn layoutOf)))
       pub peak-read :
           (p : Poll v g (quantity power peak)) →
-          collected v (g .ratios) meterNow p ≡ Reading (read.Power (roundedPower (tOf (g .ratios)) (peakIn layoutOf)))
+          collected v meterNow p ≡ Reading (read.Power (roundedPower (tOf (g .ratios)) (peakIn layoutOf)))
       pub minutes-read :
-          (p : Poll v g (quantity plain minutes)) → collected v (g .ratios) meterNow p ≡ Reading (read.Plain (minutesIn layoutOf))
+          (p : Poll v g (quantity plain minutes)) → collected v meterNow p ≡ Reading (read.Plain (minutesIn layoutOf))
       pub begun-fewer : length (layoutOf .begun) < windowSeconds (codeOf (meterNow .setup))
 
   -- STATEMENT: windows do fill. On a new meter 299 seconds of a steady load are a window that is begun, and none is full; with the 300th
@@ -123,10 +123,10 @@ module _ (v : View) where
     pub filled : layoutOf g (steady 300 load) ≡ record { full = replicate 300 load ∷ []; begun = [] }
     pub average-read :
         (p : Poll v g (quantity power average)) →
-        collected v (g .ratios) (meterNow g (steady 300 load)) p ≡ Reading (read.Power (roundedPower (tOf (g .ratios)) load))
+        collected v (meterNow g (steady 300 load)) p ≡ Reading (read.Power (roundedPower (tOf (g .ratios)) load))
     pub peak-read :
         (p : Poll v g (quantity power peak)) →
-        collected v (g .ratios) (meterNow g (steady 300 load)) p ≡ Reading (read.Power (roundedPower (tOf (g .ratios)) load))
+        collected v (meterNow g (steady 300 load)) p ≡ Reading (read.Power (roundedPower (tOf (g .ratios)) load))
 
   -- STATEMENT: so it is of every accepted new meter, whatever came to it, and of every load within the power limit
   pub record AveragesAlways : Type 0 where

@@ -5,7 +5,6 @@ use Prim.Native.Nat.{ℕ, _+_, _*_, _≤_, _<_}
 use mathlib.Core.Bool.{false}
 use mathlib.Core.List.{List}
 use lib.ListN.{length}
-use Rattle.ratio.specs.declared.Ratios.{Ratios}
 use Rattle.counts.specs.declared.Count.{Count}
 use Rattle.counts.specs.declared.WattHours.{WattHours}
 use Rattle.counts.specs.declared.Joined.the-variants as joined
@@ -25,7 +24,7 @@ use Rattle.meter.specs.declared.given.Given.{Given}
 use Rattle.meter.specs.declared.Meter.{Meter}
 use Rattle.meter.specs.Meters.{newOf}
 use Rattle.demands.specs.Histories.{Event, afterAll, exactOf, anyTaken}
-use Rattle.demands.specs.RoundTrip.{Names, replyTo}
+use Rattle.demands.specs.RoundTrip.{Names, plateOf, replyTo}
 
 -- a figure in Wh is never above an exact energy, and below it by less than one step
 pub record Bounds (exact step wh : ℕ) : Type 0 where
@@ -67,9 +66,9 @@ module _ (v : View) where
     pub below : index < asks .count
     pub shows : itemAt (viewFor v (toSecond g request)) asks index .quantity ≡ quantity
 
-  -- what the collector, told some ratios, makes of a meter's reply
-  abbrev pub collected : {g : Given} {quantity : ℕ} → Ratios → Meter → Poll g quantity → Answer
-  collected r m p = collectorIn v (p .request) (replyTo v m (p .request) (p .buffer)) r (p .index)
+  -- what the collector, told the nameplate of a meter that was given so, makes of a meter's reply
+  abbrev pub collected : {g : Given} {quantity : ℕ} → Meter → Poll g quantity → Answer
+  collected {g} m p = collectorIn v (p .request) (replyTo v m (p .request) (p .buffer)) (plateOf g) (p .index)
 
   -- register and wrap are read, they join, and what they come to is within the bounds of the ratio's step
   pub record RegisterRead (h : History) (e : ℕ) (register wrapped : Answer) : Type 0 where
@@ -96,16 +95,16 @@ module _ (v : View) where
   pub record EnergyRead (h : History) (e : ℕ) : Type 0 where
     pub register-first :
         (r : Poll (h .given) (quantity energyCount e)) (w : Poll (h .given) (quantity wrap e)) →
-        RegisterRead h e (collected (h .given .ratios) (sooner h) r) (collected (h .given .ratios) (later h) w)
+        RegisterRead h e (collected (sooner h) r) (collected (later h) w)
     pub wrap-first :
         (r : Poll (h .given) (quantity energyCount e)) (w : Poll (h .given) (quantity wrap e)) →
-        RegisterRead h e (collected (h .given .ratios) (later h) r) (collected (h .given .ratios) (sooner h) w)
+        RegisterRead h e (collected (later h) r) (collected (sooner h) w)
     pub low-first :
         (l : Poll (h .given) (quantity low e)) (u : Poll (h .given) (quantity high e)) →
-        HalvesRead h e (collected (h .given .ratios) (sooner h) l) (collected (h .given .ratios) (later h) u)
+        HalvesRead h e (collected (sooner h) l) (collected (later h) u)
     pub high-first :
         (l : Poll (h .given) (quantity low e)) (u : Poll (h .given) (quantity high e)) →
-        HalvesRead h e (collected (h .given .ratios) (later h) l) (collected (h .given .ratios) (sooner h) u)
+        HalvesRead h e (collected (later h) l) (collected (sooner h) u)
     pub still : exactOf v e (sooner h) (h .between) ≡ 0
 
   -- STATEMENT: demand 3: each of the four energies is read so, in any history

@@ -6,7 +6,7 @@ use Prim.Native.Nat.{ℕ}
 use lib.Dec.{T}
 use Rattle.refusal.specs.Numbers.{OneReasonEach}
 use Rattle.crc.specs.Crc.{CrcFits, IntactIsSealed, Put, PutSeals}
-use Rattle.words.specs.Words.{ByteSent, ReadBack}
+use Rattle.words.specs.Words.{ByteSent, ReadBack, Orders}
 use Rattle.words.specs.Signed.{SignedBack}
 use Rattle.lines.specs.Lines.{TextBack}
 use Rattle.ratio.specs.declared.Ratios.{Ratios}
@@ -25,6 +25,7 @@ use Rattle.own.specs.Kinds.{KindsInOrder}
 use Rattle.directory.specs.Bites.{TestsBite}
 use Rattle.modbus.specs.Read.{ReadWhen, TenantReads}
 use Rattle.reading.specs.Told.{OneAnswerEach}
+use Rattle.collector.specs.declared.Nameplate.{Nameplate}
 use Rattle.collector.specs.When.{RepliesWhen, NotMisread, JoinsWhen}
 use Rattle.collector.specs.Whole.{WholeWhen, OneByOne}
 use Rattle.average.specs.declared.Average.{Average}
@@ -66,13 +67,13 @@ EveryFrame Of = EveryView (λ v. (m : Meter) (frame buffer : List ℕ) → Of v 
 abbrev pub EveryMeeting : (View → Meter → List ℕ → List ℕ → Type 0) → Type 0
 EveryMeeting Of = EveryView (λ v. (m : Meter) (request buffer : List ℕ) → Meets m request buffer → Of v m request buffer)
 
--- of every reply to any request, whatever the ratios told and the item asked
-abbrev pub EveryReply : (View → List ℕ → List ℕ → Ratios → ℕ → Type 0) → Type 0
-EveryReply Of = EveryView (λ v. (request reply : List ℕ) (r : Ratios) (index : ℕ) → Of v request reply r index)
+-- of every reply to any request, whatever the nameplate told and the item asked
+abbrev pub EveryReply : (View → List ℕ → List ℕ → Nameplate → ℕ → Type 0) → Type 0
+EveryReply Of = EveryView (λ v. (request reply : List ℕ) (plate : Nameplate) (index : ℕ) → Of v request reply plate index)
 
 -- and whatever the two rows lent
-abbrev pub EveryRows : (View → List ℕ → List ℕ → Ratios → List ℕ → List ℕ → Type 0) → Type 0
-EveryRows Of = EveryView (λ v. (request reply : List ℕ) (r : Ratios) (values kinds : List ℕ) → Of v request reply r values kinds)
+abbrev pub EveryRows : (View → List ℕ → List ℕ → Nameplate → List ℕ → List ℕ → Type 0) → Type 0
+EveryRows Of = EveryView (λ v. (request reply : List ℕ) (plate : Nameplate) (values kinds : List ℕ) → Of v request reply plate values kinds)
 
 -- STATEMENT: demand 1: no frame, sample, record or reply stops the board or the collector, and what is damaged, foreign or refused
 -- leaves the meter and the reply buffer untouched, but for the error reply due. (That no call stops: none has a requires, and each
@@ -94,6 +95,7 @@ pub record Ground : Type 0 where
   pub put : (before : List ℕ) (n : ℕ) (room : Bool) (after : List ℕ) → Put before n room after → PutSeals before n room after
   pub bytes : ByteSent
   pub words : ReadBack
+  pub orders : Orders
   pub signed : SignedBack
   pub steps : StepRows
   pub directory : (dir : List Item) → T (tested dir) → DirectoryRules dir

@@ -9,7 +9,6 @@ use mathlib.Core.List.{List}
 use Rattle.crc.specs.Crc.{Put}
 use Rattle.lines.specs.declared.Line.{Line}
 use Rattle.lines.specs.Lines.{FrameRead, TextPut}
-use Rattle.ratio.specs.declared.Ratios.{Ratios}
 use Rattle.counts.specs.declared.Joined.{Joined}
 use Rattle.counts.specs.Counting.{joinTold}
 use Rattle.meter.specs.declared.Answer.{Answer}
@@ -21,6 +20,7 @@ use Rattle.board.specs.declared.Reply.{Reply}
 use Rattle.board.specs.declared.Handled.{Handled}
 use Rattle.board.specs.Board.{replyTold, Allowed, boardOf}
 use Rattle.transcript.specs.Transcript.{Transcribed}
+use Rattle.collector.specs.declared.Nameplate.{Nameplate}
 use Rattle.collector.specs.declared.whole.Whole.{Whole}
 use Rattle.collector.specs.Whole.{wholeTold, Filled, wholeOf}
 
@@ -37,8 +37,8 @@ pub record Determined : Type 0 where
       (input before : List ℕ) (x y : ℕ) (p q : List ℕ) → Transcribed input before x p → Transcribed input before y q →
       (x ≡ y) × (p ≡ q)
   pub whole :
-      (request reply : List ℕ) (r : Ratios) (values kinds : List ℕ) (x y : Whole) (p q i j : List ℕ) →
-      Filled (wholeOf request reply r values kinds) x p i → Filled (wholeOf request reply r values kinds) y q j →
+      (request reply : List ℕ) (plate : Nameplate) (values kinds : List ℕ) (x y : Whole) (p q i j : List ℕ) →
+      Filled (wholeOf request reply plate values kinds) x p i → Filled (wholeOf request reply plate values kinds) y q j →
       (x ≡ y) × (p ≡ q) × (i ≡ j)
 
 -- STATEMENT: the paper's numbers and values of an answer name one answer, so that a promise of them is a promise of the answer; of

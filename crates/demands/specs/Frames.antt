@@ -116,7 +116,7 @@ module _ (v : View) (m : Meter) (frame b : List ℕ) where
   pub record Obeys : Type 0 where
     pub reads :
         (first count : ℕ) → Answers m frame b → isRead frame ≡ true → readIn (seenBy v m frame) frame ≡ Items first count →
-        done ≡ sentOf (dataReply frame (itemsSent (shownOf m) (runItems (seenBy v m frame .seen) first count))) m b
+        done ≡ sentOf (dataReply frame (itemsSent (m .given .order) (shownOf m) (runItems (seenBy v m frame .seen) first count))) m b
     pub writes : Answers m frame b → Stores m frame → done ≡ sentOf (echoReply frame) (storedOf m frame) b
     pub for-all : Heeds m frame b → addressOf frame ≡ 0 → Stores m frame → done ≡ silentOf (storedOf m frame) b
 

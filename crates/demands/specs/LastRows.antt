@@ -23,11 +23,11 @@ module _ (v : View) where
   pub record CountedIn (step : ℕ) (h : History v) (e : ℕ) : Type 0 where
     pub register-read :
         (p : Poll v (h .given) (quantity energyCount e)) →
-        collected v (h .given .ratios) (sooner v h) p
+        collected v (sooner v h) p
         ≡ Reading (read.Energy (record { 0 = stepsAt step e h % 100000000 }) step (record { 0 = stepsAt step e h % 100000000 * step }))
     pub wrap-read :
         (p : Poll v (h .given) (quantity wrap e)) →
-        collected v (h .given .ratios) (sooner v h) p ≡ Reading (read.Wrap (stepsAt step e h / 100000000))
+        collected v (sooner v h) p ≡ Reading (read.Wrap (stepsAt step e h / 100000000))
     pub joins :
         joinOf (h .given .ratios) (record { 0 = stepsAt step e h % 100000000 }) (stepsAt step e h / 100000000)
         ≡ joined.Energy (record { 0 = stepsAt step e h * step })
@@ -38,7 +38,7 @@ module _ (v : View) where
     pub megawatt-hours : (h : History v) (e : ℕ) → e < 4 → 1000000 ≤ tOf (h .given .ratios) → CountedIn 1000000 h e
     pub no-turn :
         (h : History v) (e : ℕ) → e < 4 → 1000000 ≤ tOf (h .given .ratios) → (p : Poll v (h .given) (quantity wrap e)) →
-        collected v (h .given .ratios) (sooner v h) p ≡ Reading (read.Wrap 0)
+        collected v (sooner v h) p ≡ Reading (read.Wrap 0)
     pub hundred-kilowatt-hours :
         (h : History v) (e : ℕ) → e < 4 → 100000 ≤ tOf (h .given .ratios) → tOf (h .given .ratios) < 1000000 → CountedIn 100000 h e
 

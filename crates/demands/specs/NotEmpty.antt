@@ -56,4 +56,4 @@ module _ (v : View) where
     pub polls :
         (g : Given) (xs : List Event) → newOf g .answer ≡ Accepted → AllTyped xs →
         (q : ℕ) (p : Poll v g q) →
-        collected v (g .ratios) (afterAll v (newOf g .meter) xs) p ≡ Reading (meaningOf (afterAll v (newOf g .meter) xs) q)
+        collected v (afterAll v (newOf g .meter) xs) p ≡ Reading (meaningOf (afterAll v (newOf g .meter) xs) q)

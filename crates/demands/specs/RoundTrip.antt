@@ -7,7 +7,6 @@ use mathlib.Core.Bool.{true, false}
 use mathlib.Core.List.{List, []}
 use lib.ListN.{length, take}
 use Rattle.refusal.specs.Numbers.{refusedBy, errorBy}
-use Rattle.ratio.specs.declared.Ratios.{Ratios}
 use Rattle.ratio.specs.Ratios.{ratiosOk}
 use Rattle.directory.specs.Views.{View}
 use Rattle.modbus.specs.Frame.{addressOf, isRead}
@@ -20,6 +19,7 @@ use Rattle.board.specs.declared.Reply.{Reply}
 use Rattle.board.specs.declared.Reply.the-variants as board
 use Rattle.board.specs.Board.{toSecond, boardIn}
 use Rattle.reading.specs.declared.Answer.the-variants.{Reading}
+use Rattle.collector.specs.declared.Nameplate.{Nameplate}
 use Rattle.collector.specs.Collector.{collectorIn}
 use Rattle.collector.specs.When.{Asks, Asked, itemAt, ReplyGives}
 use Rattle.demands.specs.Frames.{seenBy}
@@ -34,6 +34,10 @@ replyIn (board.Sent n) buffer = take n buffer
 -- a request names a meter by its own address, or by its second
 abbrev pub Names : Given → List ℕ → Type 0
 Names g request = (addressOf request ≡ g .address) ⊎ (toSecond g request ≡ true)
+
+-- a meter's own nameplate: its ratios and its order, by what it was given
+abbrev pub plateOf : Given → Nameplate
+plateOf g = record { ratios = g .ratios; order = g .order }
 
 -- a meter within limits, which a request names, with room for its reply
 pub record Meets (m : Meter) (request b : List ℕ) : Type 0 where
@@ -57,24 +61,24 @@ module _ (v : View) where
       pub same : Asks (seenBy v m request) request ↔ (isRead (replyTo m request b) ≡ true)
       pub own : addressOf request ≡ m .given .address → Asks v request ↔ (isRead (replyTo m request b) ≡ true)
 
-    -- STATEMENT: told the meter's own ratios, the collector gives for every index just the reading of that item's quantity, and 12 past
+    -- STATEMENT: told the meter's own nameplate, the collector gives for every index just the reading of that item's quantity, and 12 past
     -- the items; an error reply to such a request gives its code, whatever the index; a request that the own address does not answer
     -- with data is 7, whatever the reply. The collector is not told which address it is: where the own would answer with data and
     -- the second does not, the meter's reply gives code 02
     pub record RoundTrip : Type 0 where
       pub reads :
           (index : ℕ) → Typed m → (a : Asks (seenBy v m request) request) → index < a .count →
-          collectorIn v request (replyTo m request b) (m .given .ratios) index
+          collectorIn v request (replyTo m request b) (plateOf (m .given)) index
           ≡ Reading (meaningOf m (itemAt (seenBy v m request) a index .quantity))
       pub past :
           (index : ℕ) → (a : Asks (seenBy v m request) request) → a .count ≤ index →
-          ReplyGives v request (replyTo m request b) (m .given .ratios) index (refusedBy 12)
+          ReplyGives v request (replyTo m request b) (plateOf (m .given)) index (refusedBy 12)
       pub error :
-          (r : Ratios) (index code : ℕ) → Asked v request r → 1 ≤ code → code ≤ 3 →
-          ReplyGives v request (errorBytes request code) r index (errorBy code)
+          (plate : Nameplate) (index code : ℕ) → Asked v request (plate .ratios) → 1 ≤ code → code ≤ 3 →
+          ReplyGives v request (errorBytes request code) plate index (errorBy code)
       pub other :
-          (reply : List ℕ) (r : Ratios) (index : ℕ) → ratiosOk r ≡ true → addressOf request ≡ m .given .address →
-          isRead (replyTo m request b) ≡ false → ReplyGives v request reply r index (refusedBy 7)
+          (reply : List ℕ) (plate : Nameplate) (index : ℕ) → ratiosOk (plate .ratios) ≡ true → addressOf request ≡ m .given .address →
+          isRead (replyTo m request b) ≡ false → ReplyGives v request reply plate index (refusedBy 7)
       pub not-for-tenant :
-          (r : Ratios) (index : ℕ) → Asked v request r → isRead (replyTo m request b) ≡ false →
-          ReplyGives v request (replyTo m request b) r index (errorBy 2)
+          (plate : Nameplate) (index : ℕ) → Asked v request (plate .ratios) → isRead (replyTo m request b) ≡ false →
+          ReplyGives v request (replyTo m request b) plate index (errorBy 2)

@@ -51,8 +51,8 @@ module _ (v : View) where
       (g : Given) (e : ℕ) → Poll v g (quantity energyCount e) → Poll v g (quantity wrap e) → List Event → ℕ
   ours g e register wrapped xs =
       joinedWh (g .ratios)
-      (collected v (g .ratios) (afterAll v (newOf g .meter) xs) register)
-      (collected v (g .ratios) (afterAll v (newOf g .meter) xs) wrapped)
+      (collected v (afterAll v (newOf g .meter) xs) register)
+      (collected v (afterAll v (newOf g .meter) xs) wrapped)
 
   -- a board and collector by which demand 3 holds of +Ea of such a meter
   abbrev pub KeepsBare : (List Event → ℕ) → Type 0

@@ -6,6 +6,7 @@ use lib.IntN.{negsuc}
 use Rattle.signed.specs.declared.Signed.{Signed}
 use Rattle.signed.specs.Signs.{signedOf, signWord}
 use Rattle.crc.specs.Crc.{crcOf, onLine, sealed}
+use Rattle.words.specs.declared.Order.the-variants.{UpperFirst}
 use Rattle.words.specs.Words.{sent}
 use Rattle.ratio.specs.declared.Ratios.{Ratios}
 use Rattle.counts.specs.declared.WattHours.{WattHours}
@@ -15,6 +16,7 @@ use Rattle.ratio.specs.Steps.{stepOf}
 use Rattle.counts.specs.Counting.{registerOf, wrapOf, lowOf, highOf}
 use Rattle.registers.specs.SignedWords.{signedWord, factorHundredths, factorThousandths}
 use Rattle.reading.specs.Told.{told}
+use Rattle.collector.specs.declared.Nameplate.{Nameplate}
 use Rattle.collector.specs.Collector.{collectorOf}
 
 -- an example: what the definitions give, and what the paper says
@@ -34,6 +36,10 @@ crcBytes bytes = onLine (crcOf bytes)
 abbrev ratios : ℕ → ℕ → Ratios
 ratios kta ktv = record { kta = kta; ktv = ktv }
 
+-- ratios, and upper word first, as paper 01 has it
+abbrev upper : ℕ → ℕ → Nameplate
+upper kta ktv = record { ratios = ratios kta ktv; order = UpperFirst }
+
 -- an energy
 abbrev wattHours : ℕ → WattHours
 wattHours wh = record { 0 = wh }
@@ -44,7 +50,9 @@ signs p = signWord (p .negative) ∷ signedWord (p .negative) (p .magnitude) ∷
 
 -- the two words of a factor
 abbrev factors : Signed → List ℕ
-factors f = sent 1 (factorHundredths (f .negative) (f .magnitude)) ++ sent 2 (factorThousandths (f .negative) (f .magnitude))
+factors f =
+    sent UpperFirst 1 (factorHundredths (f .negative) (f .magnitude)) ++
+    sent UpperFirst 2 (factorThousandths (f .negative) (f .magnitude))
 
 -- the request for the first voltage (003), without its CRC
 abbrev voltageAsked : List ℕ
@@ -64,7 +72,7 @@ starred =
     gives (crcBytes (0xFF ∷ 0x03 ∷ 0x20 ∷ 0x00 ∷ 0x00 ∷ 0x10 ∷ [])) (0x5A ∷ 0x18 ∷ []) ∷
     -- 01 03 04 00 01 86 A0 ends C9 EB (003): 100,000 mV, which is reading 1, a voltage
     gives (crcBytes voltageAnswer) (0xC9 ∷ 0xEB ∷ []) ∷
-    gives (told (collectorOf (sealed voltageAsked) (sealed voltageAnswer) (ratios 1 10) 0)) (0 ∷ 1 ∷ 100000 ∷ []) ∷
+    gives (told (collectorOf (sealed voltageAsked) (sealed voltageAnswer) (upper 1 10) 0)) (0 ∷ 1 ∷ 100000 ∷ []) ∷
     -- KTA 1, KTV 99: step 10. KTA 10, KTV 10: step 100
     gives (stepOf (tOf (ratios 1 99)) ∷ []) (10 ∷ []) ∷
     gives (stepOf (tOf (ratios 10 10)) ∷ []) (100 ∷ []) ∷

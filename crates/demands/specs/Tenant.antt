@@ -1,5 +1,5 @@
 -- Paper 02, request 3: what a tenant can do and learn at the second address. It changes nothing, and it learns what the items for it show
--- and no more: two meters that are alike in these answer it alike, whatever else they hold.
+-- and no more: two meters that are alike in these answer it alike, whatever else they hold. Request 5: alike in order too.
 use mathlib.Core.Path.{_≡_}
 use mathlib.Core.Logic.{_↔_, _⊎_}
 use Prim.Native.Nat.{ℕ, _+_, _*_, _≤_, _<_}
@@ -7,6 +7,7 @@ use mathlib.Core.Bool.{true, false, cond}
 use mathlib.Core.List.{List, [], _∷_, _++_}
 use lib.ListN.{length, getD, replicate}
 use Rattle.crc.specs.Crc.{sealed, intact}
+use Rattle.words.specs.declared.Order.the-variants.{UpperFirst}
 use Rattle.ratio.specs.Ratios.{tOf}
 use Rattle.ratio.specs.Steps.{stepOf}
 use Rattle.counts.specs.declared.Count.{Count}
@@ -38,11 +39,12 @@ use Rattle.demands.specs.Histories.{Event, afterAll}
 use Rattle.demands.specs.RoundTrip.{replyTo}
 use Rattle.demands.specs.Demand3.{History, sooner, exactAt, Poll, collected}
 
--- two meters alike in second address, ratios, latest sample, energies (their whole Wh) and request 1's figures (average, peak and open
--- seconds): setup, own address, remainders and the open sum may differ
+-- two meters alike in second address, ratios, order (request 5), latest sample, energies (their whole Wh) and request 1's figures (average,
+-- peak and open seconds): setup, own address, remainders and the open sum may differ
 pub record Alike (m n : Meter) : Type 0 where
   pub second : m .given .second ≡ n .given .second
   pub ratios : m .given .ratios ≡ n .given .ratios
+  pub order : m .given .order ≡ n .given .order
   pub latest : m .latest ≡ n .latest
   pub energies : (e : ℕ) → energyAt e m .wh ≡ energyAt e n .wh
   pub average : m .average .last ≡ n .average .last
@@ -69,7 +71,7 @@ pub record Sound (frame : List ℕ) : Type 0 where
 abbrev pub plainMeter : Meter
 plainMeter =
     record {
-      given = record { address = 1; second = 9; ratios = record { kta = 1; ktv = 10 } };
+      given = record { address = 1; second = 9; ratios = record { kta = 1; ktv = 10 }; order = UpperFirst };
       counters = noCounters;
       latest = noSample;
       average = record { window = record { seconds = 1; sum = 0 }; last = 0; peak = 0 };
@@ -86,7 +88,7 @@ almost =
 abbrev pub otherMeter : Meter
 otherMeter =
     record {
-      given = record { address = 2; second = 9; ratios = record { kta = 1; ktv = 10 } };
+      given = record { address = 2; second = 9; ratios = record { kta = 1; ktv = 10 }; order = UpperFirst };
       counters = record { active = almost; reactive = almost };
       latest = noSample;
       average = record { window = record { seconds = 1; sum = 100 }; last = 0; peak = 0 };
@@ -125,7 +127,7 @@ module _ (v : View) where
           FromTenant → Sound frame → functionOf frame < 0x80 → (functionOf frame ≡ 0x03 → ⊥) →
           answered ≡ sentOf (errorBytes frame 1) m b
       pub reads :
-          FromTenant → Sound frame → functionOf frame ≡ 0x03 → answered ≡ sentOf (readReply (tenantOf v) (shownOf m) frame) m b
+          FromTenant → Sound frame → functionOf frame ≡ 0x03 → answered ≡ sentOf (readReply (tenantOf v) (m .given .order) (shownOf m) frame) m b
       pub address : FromTenant → (n : ℕ) → answered .handled .reply ≡ Sent n → addressOf (replyTo v m frame b) ≡ m .given .second
 
   -- STATEMENT: there are such frames, of every function and not damaged: four bytes
@@ -169,14 +171,15 @@ module _ (v : View) where
         codeOf (boardIn v m frame b .handled .meter .setup) ≡ codeOf (m .setup) →
         SameToTenant m (boardIn v m frame b .handled .meter)
 
-  -- STATEMENT: a tenant learns what the items for it show, and no more: two meters within limits of the same second address answer it
-  -- alike exactly when these show the same
+  -- STATEMENT: a tenant learns what the items for it show, and no more: two meters within limits of the same second address and order
+  -- answer it alike exactly when these show the same
   pub record TenantLearns : Type 0 where
     pub no-more :
-        (m n : Meter) → meterOk m ≡ true → meterOk n ≡ true → m .given .second ≡ n .given .second → ShowTheSame m n → SameToTenant m n
+        (m n : Meter) → meterOk m ≡ true → meterOk n ≡ true → m .given .second ≡ n .given .second → m .given .order ≡ n .given .order →
+        ShowTheSame m n → SameToTenant m n
     pub no-less :
         (m n : Meter) → meterOk m ≡ true → meterOk n ≡ true → Typed m → Typed n → m .given .second ≡ n .given .second →
-        (m .given .second ≡ 0 → ⊥) → SameToTenant m n → ShowTheSame m n
+        m .given .order ≡ n .given .order → (m .given .second ≡ 0 → ⊥) → SameToTenant m n → ShowTheSame m n
 
   -- a register read alone, without its wrap: never above the exact energy and, while it has not wrapped, below it by less than one step
   pub record CountAlone (h : History v) (e : ℕ) (register : Answer) : Type 0 where
@@ -191,7 +194,7 @@ module _ (v : View) where
   abbrev pub CountsAlone : Type 0
   CountsAlone =
       (h : History v) (e : ℕ) → e < 4 → (p : Poll v (h .given) (quantity energyCount e)) →
-      CountAlone h e (collected v (h .given .ratios) (sooner v h) p)
+      CountAlone h e (collected v (sooner v h) p)
 
 -- STATEMENT: there are two such meters: within limits, alike to a tenant, and unlike in all that it must not see
 pub record UnlikeButAlike : Type 0 where

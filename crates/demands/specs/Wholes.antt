@@ -24,7 +24,7 @@ use Rattle.meter.specs.declared.Meter.{Meter}
 use Rattle.meter.specs.Meters.{newOf}
 use Rattle.demands.specs.Meaning.{meaningOf}
 use Rattle.demands.specs.Histories.{Event, afterAll, AllTyped}
-use Rattle.demands.specs.RoundTrip.{replyTo}
+use Rattle.demands.specs.RoundTrip.{plateOf, replyTo}
 use Rattle.demands.specs.Demand3.{Bounds, History, sooner, later, exactAt, Poll}
 
 -- two rows lent, of values and of kinds
@@ -35,16 +35,16 @@ pub record TwoRows : Type 0 where
 -- ---- over a view: the directory and the most words that reads go by
 
 module _ (v : View) where
-  -- ---- a meter of some address and ratios, a request for it, and two rows
+  -- ---- a meter that was given so, a request for it, and two rows
 
   module _ (m : Meter) {g : Given} {q : ℕ} (p : Poll v g q) (rows : TwoRows) where
-    -- its whole reply, read by one call that is told these ratios
+    -- its whole reply, read by one call that is told its nameplate
     abbrev pub readWhole : Rows
-    readWhole = wholeIn v (p .request) (replyTo v m (p .request) (p .buffer)) (g .ratios) (rows .values) (rows .kinds)
+    readWhole = wholeIn v (p .request) (replyTo v m (p .request) (p .buffer)) (plateOf g) (rows .values) (rows .kinds)
 
     -- the answer of that call in numbers
     abbrev pub GivesWhole : List ℕ → Type 0
-    GivesWhole numbers = WholeGives v (p .request) (replyTo v m (p .request) (p .buffer)) (g .ratios) (rows .values) (rows .kinds) numbers
+    GivesWhole numbers = WholeGives v (p .request) (replyTo v m (p .request) (p .buffer)) (plateOf g) (rows .values) (rows .kinds) numbers
 
     -- the quantity of the item of an index
     abbrev pub quantityAt : ℕ → ℕ
