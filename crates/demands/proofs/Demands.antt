@@ -23,7 +23,7 @@ use Rattle.meter.proofs.Accepts.{new-answers, address-limits, sample-answers, s
 use Rattle.store.proofs.Verdicts.{write-when}
 use Rattle.registers.proofs.Widths.{every-case, setup-unseen}
 use Rattle.transcript.proofs.Written.{text-written}
-use Rattle.demands.specs.Demands.{Demand1, Ground, Replies, Readings, Demand2, Tenants, Wholes, Demands}
+use Rattle.demands.specs.Demands.{Demand1, Ground, Replies, Readings, Demand2, Tenants, Wholes, BuyersOrder, Demands}
 use Rattle.demands.proofs.Frames as board
 use Rattle.demands.proofs.Polls.{with-data, round-trip}
 use Rattle.demands.proofs.Polled.{every-item-polled}
@@ -36,7 +36,8 @@ use Rattle.demands.proofs.LastRows.{last-rows, last-ratios}
 use Rattle.demands.proofs.Tenant.{second-is-named, at-second, tenant-asks, alters-nothing, answers-alike, unlike-but-alike, tenant-learns, counts-alone}
 use Rattle.demands.proofs.Fills.{averages-always}
 use Rattle.demands.proofs.Determined.{determined, numbered}
-use Rattle.demands.proofs.Starred.{examples-hold}
+use Rattle.demands.proofs.Starred.{examples-hold, order-examples}
+use Rattle.demands.proofs.Orders.{orders-always}
 use Rattle.demands.proofs.ShutOut.{shut-out}
 
 pub demand-1 : Demand1
@@ -128,5 +129,8 @@ tenants = record {
 pub wholes : Wholes
 wholes = record { when = whole-when; one-by-one = one-by-one; always = whole-always; energies = whole-demand-3 }
 
+pub buyers-order : BuyersOrder
+buyers-order = record { always = orders-always; examples = order-examples }
+
 pub demands : Demands
-demands = record { one = demand-1; two = demand-2; three = demand-3; polled = every-item-polled; not-empty = not-empty; tight = shut-out; tenants = tenants; wholes = wholes }
+demands = record { one = demand-1; two = demand-2; three = demand-3; polled = every-item-polled; not-empty = not-empty; tight = shut-out; tenants = tenants; wholes = wholes; buyers-order = buyers-order }

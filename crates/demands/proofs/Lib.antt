@@ -16,5 +16,6 @@ pub mod Averages
 pub mod Fills
 pub mod Determined
 pub mod Starred
+pub mod Orders
 pub mod ShutOut
 pub mod Demands

@@ -33,7 +33,7 @@ use Rattle.demands.specs.Histories.AllTyped.{more, none as nothing}
 use Rattle.demands.specs.Demand3.{Poll, collected}
 use Rattle.demands.specs.NotEmpty.{frames, ItemPoll, NotEmpty, ReadsAlways}
 use Rattle.demands.proofs.Seen.{to-second, to-own, part-passes, whole}
-use Rattle.demands.proofs.Polls.{asked-whole, poll-reads}
+use Rattle.demands.proofs.Polls.{typed-reads}
 use Rattle.demands.proofs.Polled.{asked-alone}
 use Rattle.demands.proofs.Histories.{after-events}
 use Rattle.demands.proofs.Types.{zeros, blank-sample, types-kept}
@@ -95,16 +95,6 @@ module _ (v : View) (good : T (passes v)) where
   -- ---- the round trip over histories
 
   -- a meter within limits, as a program holds it
-  pub typed-poll : (g : Given) (m : Meter) → meterOk m ≡ true → m .given ≡ g → Typed m → (q : ℕ) (p : Poll v g q) → collected v m p ≡ Reading (meaningOf m q)
-  typed-poll g m within same typed q p =
-      let tenant = toSecond g (p .request) in
-      let its = asked-whole v good tenant (p .asks) in
-      let here = whole v good tenant (p .request) (p .asks .first) (p .asks .count) (p .asks .items) .item (p .index) (p .below) in
-      let known : p .asks .first + p .index < length (v .seen) = omega (arith, p .below, legal-read v good (its .items) .inside) in
-      let shows = typed-shows (v .seen) (passes-tested v good) (p .asks .first + p .index) known m typed within in
-      poll-reads v good m within same p (subst (λ (x : ℕ). Shows m x) (ap (λ (it : Item). it .quantity) (sym here) ∙ p .shows) shows)
-
-  -- after events
   pub record Held (g : Given) (m : Meter) : Type 0 where
     pub within : meterOk m ≡ true
     pub given : m .given ≡ g
@@ -122,5 +112,5 @@ module _ (v : View) (good : T (passes v)) where
 
   pub reads-always : ReadsAlways v
   reads-always = record {
-    polls = λ g xs made typed q p. let h = after-held g (newOf g .meter) xs (new-held g made) typed in typed-poll g (afterAll v (newOf g .meter) xs) (h .within) (h .given) (h .typed) q p;
+    polls = λ g xs made typed q p. let h = after-held g (newOf g .meter) xs (new-held g made) typed in typed-reads v good (afterAll v (newOf g .meter) xs) (h .within) (h .given) p (h .typed);
   }

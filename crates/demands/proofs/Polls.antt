@@ -15,8 +15,8 @@ use Rattle.refusal.specs.Numbers.{refusedBy, errorBy}
 use Rattle.crc.specs.Crc.{crcOf, onLine}
 use Rattle.crc.proofs.Laws.{length-sealed, intact-is-sealed}
 use Rattle.words.specs.declared.Order.{Order}
-use Rattle.words.specs.Words.{sent, valueAt}
-use Rattle.words.proofs.Laws.{read-back}
+use Rattle.words.specs.Words.{sent, valueAt, exchanged}
+use Rattle.words.proofs.Laws.{read-back, orders}
 use Rattle.ratio.specs.Ratios.{ratiosOk}
 use Rattle.directory.specs.declared.Item.{Item}
 use Rattle.directory.specs.declared.Span.the-variants.{Items, Error}
@@ -40,6 +40,7 @@ use Rattle.meter.specs.Meters.{meterT, meterOk}
 use Rattle.meter.proofs.Parts.{own-ratios, other-address}
 use Rattle.store.proofs.Verdicts.{write-when}
 use Rattle.registers.specs.Shown.{shownOf}
+use Rattle.registers.specs.Typed.{Typed}
 use Rattle.registers.proofs.Widths.{Shows, in-room, typed-shows}
 use Rattle.reading.specs.declared.Answer.the-variants.{Reading}
 use Rattle.reading.specs.Told.{told}
@@ -64,6 +65,7 @@ use Rattle.demands.specs.Meaning.{meaningOf}
 use Rattle.demands.proofs.Shown.{item-read}
 use Rattle.demands.specs.RoundTrip.{replyIn, Names, plateOf, replyTo, Meets, WithData, RoundTrip}
 use Rattle.demands.specs.Demand3.{Poll, collected}
+use Rattle.demands.specs.Orders.{named, readBy}
 
 -- ---- the words of an item, among those of a run
 
@@ -73,6 +75,12 @@ split o shown [] i l = absurd (omega (arith, l))
 split o shown (it ∷ its) zero l = refl
 split o shown (it ∷ its) (suc i) l =
     ap (λ (x : List ℕ). sent o (it .words) (shown (it .quantity)) ++ x) (split o shown its i (omega (arith, l))) ∙ sym (append-assoc (sent o (it .words) (shown (it .quantity))) _ _)
+
+-- what an L was sent as, read in the other order
+pub read-other : (o p : Order) (n x : ℕ) → n ≡ 2 → x < 65536 ^ n → (p ≡ o → ⊥) → (before after : List ℕ) → valueAt o n (before ++ sent p n x ++ after) (length before) ≡ exchanged x
+read-other o p n x two fits d before after =
+    (λ i. valueAt o (two i) (before ++ sent p (two i) x ++ after) (length before))
+    ∙ orders .other p o x before after d (subst (λ (k : ℕ). x < 65536 ^ k) two fits)
 
 -- a word is two bytes
 two-bytes : (n : ℕ) → n ≤ 2 → 256 ^ (2 * n) ≡ 65536 ^ n
@@ -221,6 +229,11 @@ module _ (v : View) (good : T (passes v)) where
       pub collects : Shows m (it .quantity) → collectorIn v request (replyTo v m request b) (plateOf (m .given)) index ≡ Reading (meaningOf m (it .quantity))
       collects fit = read-as order _ (value-back fit) ∙ item-read (v .seen) (passes-tested v good) m (meets .within) (a .first + index) known fit
 
+      pub value-other : Shows m (it .quantity) → it .words ≡ 2 → (o : Order) → (order ≡ o → ⊥) → valueIn v o a (replyTo v m request b) index ≡ exchanged (shownOf m (it .quantity))
+      value-other fit two o d =
+          ap (λ (x : List ℕ). valueIn v o a x index) replies
+          ∙ value-as o (exchanged (shownOf m (it .quantity))) (read-other o order (it .words) (shownOf m (it .quantity)) two (fitting-words fit) d)
+
       -- what the item shows stands in the reply
       pub value-read : Shows m (it .quantity) → valueIn v order a (replyTo v m request b) index ≡ shownOf m (it .quantity)
       value-read fit = ap (λ (x : List ℕ). valueIn v order a x index) replies ∙ value-back fit
@@ -328,16 +341,58 @@ module _ (v : View) (good : T (passes v)) where
       not-for-tenant = λ plate index asked h. ap (λ (x : List ℕ). told (collectorIn v request x plate index)) (refused (asked .asks) h) ∙ error-given request plate index 2 asked (omega arith) (omega arith);
     }
 
-  -- ---- a poll, told the nameplate of the meter
+  -- ---- a poll of a meter that was given so
 
-  pub poll-reads : (m : Meter) {g : Given} → meterOk m ≡ true → m .given ≡ g → {q : ℕ} (p : Poll v g q) → Shows m q → collected v m p ≡ Reading (meaningOf m q)
-  poll-reads m {g} within given {q} p fit =
-      let tenant = toSecond g (p .request) in
-      let same = ap (λ (x : Given). toSecond x (p .request)) given in
-      let meets : Meets m (p .request) (p .buffer) = record { within = within; room = p .room; named = subst (λ (x : Given). Names x (p .request)) (sym given) (p .named) } in
-      let seen : readIn (seenBy v m (p .request)) (p .request) ≡ Items (p .asks .first) (p .asks .count) = ap (λ (t : Bool). readIn (viewFor v t) (p .request)) same ∙ p .asks .items in
-      let item : itemAt v (asked-whole tenant (p .asks)) (p .index) .quantity ≡ q =
-      ap (λ (it : Item). it .quantity) (sym (whole v good tenant (p .request) (p .asks .first) (p .asks .count) (p .asks .items) .item (p .index) (p .below))) ∙ p .shows in
-      ap (λ (x : Given). collectorIn v (p .request) (replyTo v m (p .request) (p .buffer)) (plateOf x) (p .index)) (sym given)
-      ∙ collects m (p .request) (p .buffer) meets (asked-whole tenant (p .asks)) seen (p .index) (p .below) (rw item fit)
-      ∙ ap (λ (x : ℕ). Reading (meaningOf m x)) item
+  module _ (m : Meter) {g : Given} (within : meterOk m ≡ true) (given : m .given ≡ g) {q : ℕ} (p : Poll v g q) where
+    abbrev tenant : Bool
+    tenant = toSecond g (p .request)
+
+    -- what it asks for, of the whole directory
+    abbrev pub polls : Asks v (p .request)
+    polls = asked-whole tenant (p .asks)
+
+    -- the item polled
+    abbrev pub polled-item : Item
+    polled-item = itemAt v polls (p .index)
+
+    pub same-item : itemAt (viewFor v tenant) (p .asks) (p .index) ≡ polled-item
+    same-item = whole v good tenant (p .request) (p .asks .first) (p .asks .count) (p .asks .items) .item (p .index) (p .below)
+
+    pub shows-it : polled-item .quantity ≡ q
+    shows-it = ap (λ (it : Item). it .quantity) (sym same-item) ∙ p .shows
+
+    meeting : Meets m (p .request) (p .buffer)
+    meeting = record { within = within; room = p .room; named = subst (λ (x : Given). Names x (p .request)) (sym given) (p .named) }
+
+    seeing : readIn (seenBy v m (p .request)) (p .request) ≡ Items (p .asks .first) (p .asks .count)
+    seeing = ap (λ (x : Given). readIn (viewFor v (toSecond x (p .request))) (p .request)) given ∙ p .asks .items
+
+    pub poll-reads : Shows m q → collected v m p ≡ Reading (meaningOf m q)
+    poll-reads fit =
+        ap (λ (x : Given). collectorIn v (p .request) (replyTo v m (p .request) (p .buffer)) (plateOf x) (p .index)) (sym given)
+        ∙ collects m (p .request) (p .buffer) meeting polls seeing (p .index) (p .below) (rw shows-it fit)
+        ∙ ap (λ (x : ℕ). Reading (meaningOf m x)) shows-it
+
+    -- told some order: by what is read where the words stand
+    pub poll-read-as : (o : Order) (x : ℕ) → ((before after : List ℕ) → valueAt o (polled-item .words) (before ++ sent (m .given .order) (polled-item .words) (shownOf m (polled-item .quantity)) ++ after) (length before) ≡ x) → readBy v m p o ≡ readingOf (meterT m) polled-item x
+    poll-read-as o x reads =
+        ap (λ (y : Given). collectorIn v (p .request) (replyTo v m (p .request) (p .buffer)) (named (y .ratios) o) (p .index)) (sym given)
+        ∙ read-as m (p .request) (p .buffer) meeting polls seeing (p .index) (p .below) o x (value-as m (p .request) (p .buffer) meeting polls seeing (p .index) (p .below) o x reads)
+
+    -- ---- the same of a meter as a program holds it: what the item shows fits its words
+
+    module _ (typed : Typed m) where
+      known-item : p .asks .first + p .index < length (v .seen)
+      known-item = omega (arith, p .below, legal-read v good (polls .items) .inside)
+
+      shows-typed : Shows m (polled-item .quantity)
+      shows-typed = typed-shows (v .seen) (passes-tested v good) (p .asks .first + p .index) known-item m typed within
+
+      pub fits-words : shownOf m (polled-item .quantity) < 65536 ^ polled-item .words
+      fits-words = fitting-words m (p .request) (p .buffer) meeting polls seeing (p .index) (p .below) shows-typed
+
+      pub item-means : readingOf (meterT m) polled-item (shownOf m (polled-item .quantity)) ≡ Reading (meaningOf m (polled-item .quantity))
+      item-means = item-read (v .seen) (passes-tested v good) m within (p .asks .first + p .index) known-item shows-typed
+
+      pub typed-reads : collected v m p ≡ Reading (meaningOf m q)
+      typed-reads = poll-reads (subst (λ (x : ℕ). Shows m x) shows-it shows-typed)

@@ -12,7 +12,12 @@ use Rattle.modbus.specs.Read.{readIn}
 use Rattle.reading.specs.Readings.{oneOf, thirteen, readingOf}
 use Rattle.collector.specs.Collector.{heard, itemOf, replyOf, judgedIn, collectorIn}
 use Rattle.demands.specs.Starred.{starred, ExamplesHold}
+use Rattle.demands.specs.Orders.{ordered, OrderExamples}
 
 pub examples-hold : ExamplesHold
 unfolding starred shift shifts crcFrom endsIn intact sent valueAt twos powerUnit stepOf directory findIn runFrom runIn wordsOf silence readIn oneOf thirteen readingOf heard itemOf replyOf judgedIn collectorIn
 examples-hold = record { agree = refl }
+
+pub order-examples : OrderExamples
+unfolding ordered shift shifts crcFrom endsIn intact sent valueAt twos powerUnit stepOf directory findIn runFrom runIn wordsOf silence readIn oneOf thirteen readingOf heard itemOf replyOf judgedIn collectorIn
+order-examples = record { agree = refl }

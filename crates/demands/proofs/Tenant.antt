@@ -14,7 +14,7 @@ use Rattle.refusal.specs.declared.ErrorCode.the-variants.{Function}
 use Rattle.crc.specs.Crc.{intact}
 use Rattle.crc.proofs.Laws.{intact-is-sealed}
 use Rattle.words.specs.declared.Order.{Order}
-use Rattle.words.specs.Words.{sent}
+use Rattle.words.specs.Words.{sent, exchanged}
 use Rattle.ratio.specs.Ratios.{tOf}
 use Rattle.ratio.specs.Powers.{powerLimit}
 use Rattle.ratio.specs.Steps.{stepOf}
@@ -68,7 +68,7 @@ use Rattle.demands.proofs.Gives.Gives.{other, misread, shows, miswritte
 use Rattle.demands.proofs.Gives.Case.{out, short, unheeded, for-all, for-one}
 use Rattle.demands.proofs.Replies.{gives-sent, gives-long}
 use Rattle.demands.proofs.Frames.{untouched, window-opened, frame-within, sent-reply}
-use Rattle.demands.proofs.Polls.{asked-whole, value-read}
+use Rattle.demands.proofs.Polls.{asked-whole, value-read, value-other}
 use Rattle.demands.proofs.Polled.{asked-alone}
 use Rattle.demands.proofs.Histories.{after-events}
 use Rattle.demands.proofs.Demand3.{whole, then, counts}
@@ -269,15 +269,30 @@ module _ (v : View) (good : T (passes v)) where
     abbrev asks : Asks v request
     asks = asked-whole v good true tenant-read
 
-    stands : (x : Meter) → meterOk x ≡ true → Typed x → address ≡ x .given .second → valueIn v (x .given .order) asks (replyTo v x request b) 0 ≡ shownOf x (it .quantity)
-    stands x ok typed e =
-        let t : toSecond (x .given) request ≡ true = to-second (x .given) request (λ z. some (e ∙ z)) e in
-        let place : i + 0 ≡ i = omega arith in
-        let here : getD (v .seen) (i + 0) none ≡ it = ap (λ (k : ℕ). getD (v .seen) k none) place ∙ sym (tenant-sees v good .same i l) in
-        let known : i + 0 < length (v .seen) = omega (arith, l, tenant-long v, leading-most forTenant (v .seen)) in
-        let seen : readIn (seenBy v x request) request ≡ Items i 1 = ap (λ (w : View). readIn w request) (second-seen x request t v) ∙ tenant-read .items in
-        value-read v good x request b (record { within = ok; room = room; named = inr t }) asks seen 0 (omega arith) (typed-shows (v .seen) (passes-tested v good) (i + 0) known x typed ok)
-        ∙ ap (λ (y : Item). shownOf x (y .quantity)) here
+    -- where it stands in the whole directory
+    here : getD (v .seen) (i + 0) none ≡ it
+    here = let place : i + 0 ≡ i = omega arith in ap (λ (k : ℕ). getD (v .seen) k none) place ∙ sym (tenant-sees v good .same i l)
+
+    known : i + 0 < length (v .seen)
+    known = omega (arith, l, tenant-long v, leading-most forTenant (v .seen))
+
+    -- of a meter with this second address
+    module _ (x : Meter) (ok : meterOk x ≡ true) (typed : Typed x) (e : address ≡ x .given .second) where
+      second : toSecond (x .given) request ≡ true
+      second = to-second (x .given) request (λ z. some (e ∙ z)) e
+
+      seen : readIn (seenBy v x request) request ≡ Items i 1
+      seen = ap (λ (w : View). readIn w request) (second-seen x request second v) ∙ tenant-read .items
+
+      stands : valueIn v (x .given .order) asks (replyTo v x request b) 0 ≡ shownOf x (it .quantity)
+      stands =
+          value-read v good x request b (record { within = ok; room = room; named = inr second }) asks seen 0 (omega arith) (typed-shows (v .seen) (passes-tested v good) (i + 0) known x typed ok)
+          ∙ ap (λ (y : Item). shownOf x (y .quantity)) here
+
+      stands-other : it .words ≡ 2 → (o : Order) → (x .given .order ≡ o → ⊥) → valueIn v o asks (replyTo v x request b) 0 ≡ exchanged (shownOf x (it .quantity))
+      stands-other two o d =
+          value-other v good x request b (record { within = ok; room = room; named = inr second }) asks seen 0 (omega arith) (typed-shows (v .seen) (passes-tested v good) (i + 0) known x typed ok) (ap (λ (y : Item). y .words) here ∙ two) o d
+          ∙ ap (λ (y : Item). exchanged (shownOf x (y .quantity))) here
 
   no-less : (m n : Meter) → meterOk m ≡ true → meterOk n ≡ true → Typed m → Typed n → m .given .second ≡ n .given .second → m .given .order ≡ n .given .order → (m .given .second ≡ 0 → ⊥) → SameToTenant v m n → ShowTheSame v m n
   no-less m n hm hn tm tn e2 eo some same i l =
@@ -289,8 +304,18 @@ module _ (v : View) (good : T (passes v)) where
       ∙ ap₂ (λ (o : Order) (reply : List ℕ). valueIn v o (asks address i some l b room) reply 0) eo (same r b b (record { some = some; named = refl }) room room .bytes)
       ∙ stands address i some l b room n hn tn e2
 
+  other-order : (m n : Meter) → meterOk m ≡ true → meterOk n ≡ true → Typed m → Typed n → m .given .second ≡ n .given .second → (m .given .order ≡ n .given .order → ⊥) → (m .given .second ≡ 0 → ⊥) → SameToTenant v m n → (i : ℕ) → i < length (tenantOf v .seen) → getD (tenantOf v .seen) i none .words ≡ 2 → shownOf m (getD (tenantOf v .seen) i none .quantity) ≡ exchanged (shownOf n (getD (tenantOf v .seen) i none .quantity))
+  other-order m n hm hn tm tn e2 d some same i l two =
+      let b : List ℕ = replicate 256 0 in
+      let room : 256 ≤ length b = omega arith in
+      let address = m .given .second in
+      let r = request address i some l b room in
+      sym (stands address i some l b room m hm tm refl)
+      ∙ ap (λ (reply : List ℕ). valueIn v (m .given .order) (asks address i some l b room) reply 0) (same r b b (record { some = some; named = refl }) room room .bytes)
+      ∙ stands-other address i some l b room n hn tn e2 two (m .given .order) (λ e. d (sym e))
+
   pub tenant-learns : TenantLearns v
-  tenant-learns = record { no-more = no-more; no-less = no-less }
+  tenant-learns = record { no-more = no-more; no-less = no-less; other-order = other-order }
 
   -- ---- what is done with its frames
 

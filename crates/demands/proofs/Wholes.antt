@@ -39,8 +39,8 @@ use Rattle.demands.specs.RoundTrip.{plateOf, replyTo}
 use Rattle.demands.specs.Histories.{afterAll}
 use Rattle.demands.specs.Demand3.{History, sooner, later, Poll, collected, RegisterRead, HalvesRead}
 use Rattle.demands.specs.Wholes.{TwoRows, readWhole, GivesWhole, quantityAt, Room, NoRoom, AllCells, WholeAlways, RegisterWhole, HalvesWhole, WholeDemand3}
-use Rattle.demands.proofs.Polls.{asked-whole}
-use Rattle.demands.proofs.NotEmpty.{typed-poll, Held, new-held, after-held}
+use Rattle.demands.proofs.Polls.{asked-whole, typed-reads}
+use Rattle.demands.proofs.NotEmpty.{Held, new-held, after-held}
 use Rattle.demands.proofs.Demand3.{demand-3}
 
 -- how many items a read asks for
@@ -62,7 +62,7 @@ module _ (v : View) (good : T (passes v)) where
 
     reads : (index : ℕ) → index < n → collectorIn v (p .request) reply (plateOf g) index ≡ Reading (meaningOf m (quantityAt v m p rows index))
     unfolding at
-    reads index b = typed-poll v good g m (held .within) (held .given) (held .typed) (quantityAt v m p rows index) (at index b)
+    reads index b = typed-reads v good m (held .within) (held .given) (at index b) (held .typed)
 
     -- the reply fits
     fits : Fits v (p .request) reply (g .ratios)

@@ -54,6 +54,7 @@ use Rattle.demands.specs.Wholes.{WholeAlways, WholeDemand3}
 use Rattle.demands.specs.Determined.{Determined, Numbered}
 use Rattle.demands.specs.ShutOut.{ShutOut}
 use Rattle.demands.specs.Starred.{ExamplesHold}
+use Rattle.demands.specs.Orders.{OrdersAlways, OrderExamples}
 
 -- what is said of every view that passes the tests, paper 01's own among them (`OwnPasses.passed`)
 abbrev pub EveryView : (View → Type 0) → Type 0
@@ -177,6 +178,13 @@ pub record Wholes : Type 0 where
   pub always : EveryView WholeAlways
   pub energies : EveryView WholeDemand3
 
+-- STATEMENT: request 5, of the order of words: which one a meter has, what is read where both ends name the same and where they do not, and
+-- examples. (What an order is to words is `Orders`; that the bytes of each reply go by the record's, at either address, is `Obeys.reads`; that
+-- all of demand 3 and of the round trip is told the meter's own is `plateOf`.)
+pub record BuyersOrder : Type 0 where
+  pub always : EveryView OrdersAlways
+  pub examples : OrderExamples
+
 -- STATEMENT: the three; demand 3: one energy, read in any of the three places, is never above the exact energy of the samples
 -- accepted so far, and below it by less than one step. None of it is empty, and it leaves no room for the wrong meters that the
 -- paper names
@@ -189,3 +197,4 @@ pub record Demands : Type 0 where
   pub tight : EveryView ShutOut
   pub tenants : Tenants
   pub wholes : Wholes
+  pub buyers-order : BuyersOrder

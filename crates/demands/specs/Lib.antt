@@ -11,5 +11,6 @@ pub mod NotEmpty
 pub mod Wholes
 pub mod Determined
 pub mod Starred
+pub mod Orders
 pub mod ShutOut
 pub mod Demands

@@ -25,7 +25,7 @@ pub record Example : Type 0 where
   pub says : List ℕ
 
 -- an example from its two parts
-abbrev gives : List ℕ → List ℕ → Example
+abbrev pub gives : List ℕ → List ℕ → Example
 gives given says = record { given = given; says = says }
 
 -- the CRC of some bytes, as it goes on the line

@@ -8,6 +8,7 @@ use mathlib.Core.List.{List, [], _∷_, _++_}
 use lib.ListN.{length, getD, replicate}
 use Rattle.crc.specs.Crc.{sealed, intact}
 use Rattle.words.specs.declared.Order.the-variants.{UpperFirst}
+use Rattle.words.specs.Words.{exchanged}
 use Rattle.ratio.specs.Ratios.{tOf}
 use Rattle.ratio.specs.Steps.{stepOf}
 use Rattle.counts.specs.declared.Count.{Count}
@@ -172,7 +173,8 @@ module _ (v : View) where
         SameToTenant m (boardIn v m frame b .handled .meter)
 
   -- STATEMENT: a tenant learns what the items for it show, and no more: two meters within limits of the same second address and order
-  -- answer it alike exactly when these show the same
+  -- answer it alike exactly when these show the same; two of different orders only if what every L for it shows of the one is that of the
+  -- other with its words exchanged (request 5)
   pub record TenantLearns : Type 0 where
     pub no-more :
         (m n : Meter) → meterOk m ≡ true → meterOk n ≡ true → m .given .second ≡ n .given .second → m .given .order ≡ n .given .order →
@@ -180,6 +182,11 @@ module _ (v : View) where
     pub no-less :
         (m n : Meter) → meterOk m ≡ true → meterOk n ≡ true → Typed m → Typed n → m .given .second ≡ n .given .second →
         m .given .order ≡ n .given .order → (m .given .second ≡ 0 → ⊥) → SameToTenant m n → ShowTheSame m n
+    pub other-order :
+        (m n : Meter) → meterOk m ≡ true → meterOk n ≡ true → Typed m → Typed n → m .given .second ≡ n .given .second →
+        (m .given .order ≡ n .given .order → ⊥) → (m .given .second ≡ 0 → ⊥) → SameToTenant m n →
+        (i : ℕ) → i < length (tenantOf v .seen) → getD (tenantOf v .seen) i none .words ≡ 2 →
+        shownOf m (getD (tenantOf v .seen) i none .quantity) ≡ exchanged (shownOf n (getD (tenantOf v .seen) i none .quantity))
 
   -- a register read alone, without its wrap: never above the exact energy and, while it has not wrapped, below it by less than one step
   pub record CountAlone (h : History v) (e : ℕ) (register : Answer) : Type 0 where

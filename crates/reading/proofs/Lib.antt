@@ -2,3 +2,4 @@ pub mod ByKind
 pub mod Told
 pub mod Wide
 pub mod Cells
+pub mod Apart
