@@ -255,7 +255,13 @@ module _ (v : View) (good : T (passes v)) where
 
   -- ---- what an item shows stands in the reply to its read
 
-  module _ (address i : ℕ) (some : address ≡ 0 → ⊥) (l : i < length (tenantOf v .seen)) (b : List ℕ) (room : 256 ≤ length b) where
+  module _ (address i : ℕ) (some : address ≡ 0 → ⊥) (l : i < length (tenantOf v .seen)) where
+    abbrev b : List ℕ
+    b = replicate 256 0
+
+    room : 256 ≤ length b
+    room = omega arith
+
     abbrev it : Item
     it = getD (tenantOf v .seen) i none
 
@@ -294,25 +300,22 @@ module _ (v : View) (good : T (passes v)) where
           value-other v good x request b (record { within = ok; room = room; named = inr second }) asks seen 0 (omega arith) (typed-shows (v .seen) (passes-tested v good) (i + 0) known x typed ok) (ap (λ (y : Item). y .words) here ∙ two) o d
           ∙ ap (λ (y : Item). exchanged (shownOf x (y .quantity))) here
 
+  -- what the one shows stands in the reply of the other
+  in-reply : (m n : Meter) → meterOk m ≡ true → Typed m → (some : m .given .second ≡ 0 → ⊥) → SameToTenant v m n → (i : ℕ) (l : i < length (tenantOf v .seen)) → shownOf m (getD (tenantOf v .seen) i none .quantity) ≡ valueIn v (m .given .order) (asks (m .given .second) i some l) (replyTo v n (request (m .given .second) i some l) (replicate 256 0)) 0
+  in-reply m n hm tm some same i l =
+      let address = m .given .second in
+      sym (stands address i some l m hm tm refl)
+      ∙ ap (λ (reply : List ℕ). valueIn v (m .given .order) (asks address i some l) reply 0) (same (request address i some l) (b address i some l) (b address i some l) (record { some = some; named = refl }) (room address i some l) (room address i some l) .bytes)
+
   no-less : (m n : Meter) → meterOk m ≡ true → meterOk n ≡ true → Typed m → Typed n → m .given .second ≡ n .given .second → m .given .order ≡ n .given .order → (m .given .second ≡ 0 → ⊥) → SameToTenant v m n → ShowTheSame v m n
   no-less m n hm hn tm tn e2 eo some same i l =
-      let b : List ℕ = replicate 256 0 in
-      let room : 256 ≤ length b = omega arith in
-      let address = m .given .second in
-      let r = request address i some l b room in
-      sym (stands address i some l b room m hm tm refl)
-      ∙ ap₂ (λ (o : Order) (reply : List ℕ). valueIn v o (asks address i some l b room) reply 0) eo (same r b b (record { some = some; named = refl }) room room .bytes)
-      ∙ stands address i some l b room n hn tn e2
+      in-reply m n hm tm some same i l
+      ∙ ap (λ (o : Order). valueIn v o (asks (m .given .second) i some l) (replyTo v n (request (m .given .second) i some l) (replicate 256 0)) 0) eo
+      ∙ stands (m .given .second) i some l n hn tn e2
 
   other-order : (m n : Meter) → meterOk m ≡ true → meterOk n ≡ true → Typed m → Typed n → m .given .second ≡ n .given .second → (m .given .order ≡ n .given .order → ⊥) → (m .given .second ≡ 0 → ⊥) → SameToTenant v m n → (i : ℕ) → i < length (tenantOf v .seen) → getD (tenantOf v .seen) i none .words ≡ 2 → shownOf m (getD (tenantOf v .seen) i none .quantity) ≡ exchanged (shownOf n (getD (tenantOf v .seen) i none .quantity))
   other-order m n hm hn tm tn e2 d some same i l two =
-      let b : List ℕ = replicate 256 0 in
-      let room : 256 ≤ length b = omega arith in
-      let address = m .given .second in
-      let r = request address i some l b room in
-      sym (stands address i some l b room m hm tm refl)
-      ∙ ap (λ (reply : List ℕ). valueIn v (m .given .order) (asks address i some l b room) reply 0) (same r b b (record { some = some; named = refl }) room room .bytes)
-      ∙ stands-other address i some l b room n hn tn e2 two (m .given .order) (λ e. d (sym e))
+      in-reply m n hm tm some same i l ∙ stands-other (m .given .second) i some l n hn tn e2 two (m .given .order) (λ e. d (sym e))
 
   pub tenant-learns : TenantLearns v
   tenant-learns = record { no-more = no-more; no-less = no-less; other-order = other-order }
