@@ -1,5 +1,5 @@
 -- A history is made of what it asks for, and the read of one item polls it; after typed events a record is as a program holds it, so the round trip holds of it.
-use mathlib.Core.Path.{_≡_, refl, sym, ap, subst, _∙_}
+use mathlib.Core.Path.{_≡_, refl, ap, _∙_}
 use mathlib.Core.Logic.{inl, inr}
 use mathlib.Core.Bool.{Bool, true, false}
 use mathlib.Core.List.{List, [], _∷_}
@@ -8,14 +8,10 @@ use native.Mathlib.Nat.{pos-of-ne-zero}
 use native.Mathlib.Omega.{arith}
 use lib.Dec.{T}
 use lib.ListN.{length, getD, replicate}
-use Rattle.directory.specs.declared.Item.{Item}
 use Rattle.directory.specs.Item.{none}
 use Rattle.directory.specs.Views.{View, passes}
 use Rattle.directory.specs.Tenant.{tenantOf}
-use Rattle.directory.proofs.Views.{passes-tested}
 use Rattle.modbus.specs.Read.{readIn}
-use Rattle.modbus.proofs.Judged.{legal-read}
-use Rattle.reading.specs.declared.Answer.the-variants.{Reading}
 use Rattle.meter.specs.declared.Answer.the-variants.{Accepted}
 use Rattle.meter.specs.declared.given.Given.{Given}
 use Rattle.meter.specs.declared.Meter.{Meter}
@@ -23,16 +19,13 @@ use Rattle.meter.specs.Samples.{noSample}
 use Rattle.meter.specs.Meters.{meterOk, newOf}
 use Rattle.registers.specs.Typed.{Typed}
 use Rattle.meter.proofs.Accepts.{made-within, new-blank, new-answers}
-use Rattle.registers.proofs.Widths.{Shows, typed-shows}
 use Rattle.board.specs.Board.{toSecond, viewFor}
-use Rattle.demands.specs.Meaning.{meaningOf}
 use Rattle.demands.specs.RoundTrip.{Names}
 use Rattle.demands.specs.Polled.{requestFor}
 use Rattle.demands.specs.Histories.{Event, afterEvent, afterAll, anyTaken, AllTyped}
 use Rattle.demands.specs.Histories.AllTyped.{more, none as nothing}
-use Rattle.demands.specs.Demand3.{Poll, collected}
 use Rattle.demands.specs.NotEmpty.{frames, ItemPoll, NotEmpty, ReadsAlways}
-use Rattle.demands.proofs.Seen.{to-second, to-own, part-passes, whole}
+use Rattle.demands.proofs.Seen.{to-second, to-own, part-passes}
 use Rattle.demands.proofs.Polls.{typed-reads}
 use Rattle.demands.proofs.Polled.{asked-alone}
 use Rattle.demands.proofs.Histories.{after-events}

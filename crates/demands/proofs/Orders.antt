@@ -3,14 +3,13 @@
 use mathlib.Core.Path.{_≡_, refl, sym, ap, ap₂, subst, _∙_}
 use mathlib.Core.Logic.{_⊎_, inl, inr}
 use mathlib.Core.Bool.{Bool, true, false}
-use mathlib.Core.List.{List, [], _∷_, _++_}
+use mathlib.Core.List.{List, [], _++_}
 use Prim.Native.Nat.{ℕ, _+_, _/_, _%_, _^_, _≤_, _<_}
 use native.Mathlib.Omega.{arith}
 use lib.Dec.{T}
-use lib.ListN.{length, getD}
+use lib.ListN.{length}
 use borrow.Author.Tests.{eq-eqb}
 use Rattle.refusal.specs.Numbers.{refusedBy}
-use Rattle.crc.specs.Crc.{shift, shifts, crcFrom, endsIn, intact}
 use Rattle.words.specs.declared.Order.{Order}
 use Rattle.words.specs.declared.Order.the-variants.{UpperFirst, LowerFirst}
 use Rattle.words.specs.Words.{sent, valueAt, exchanged}
@@ -19,7 +18,6 @@ use Rattle.directory.specs.declared.Item.{Item}
 use Rattle.directory.specs.Run.{isL}
 use Rattle.directory.specs.Views.{View, passes}
 use Rattle.reading.specs.declared.Quantity.{Quantity}
-use Rattle.reading.specs.declared.Answer.{Answer}
 use Rattle.reading.specs.declared.Answer.the-variants.{Reading}
 use Rattle.reading.specs.Told.{kindOf, told}
 use Rattle.reading.specs.Readings.{thirteen, readingOf}
@@ -36,11 +34,10 @@ use Rattle.meter.specs.Meters.{meterT, givenOf, newOf}
 use Rattle.meter.proofs.Accepts.{new-blank}
 use Rattle.registers.specs.Shown.{shownOf}
 use Rattle.demands.specs.Meaning.{meaningOf}
-use Rattle.demands.specs.Histories.{Event, afterAll}
+use Rattle.demands.specs.Histories.{afterAll}
 use Rattle.demands.specs.RoundTrip.{replyTo}
 use Rattle.demands.specs.Demand3.{Poll}
-use Rattle.demands.specs.Wholes.{TwoRows}
-use Rattle.demands.specs.Orders.{named, readBy, wholeBy, Another, OrdersRead, OrdersAlways, ordered, OrderExamples}
+use Rattle.demands.specs.Orders.{named, readBy, Another, OrdersRead, OrdersAlways}
 use Rattle.demands.proofs.Histories.{after-events}
 use Rattle.demands.proofs.NotEmpty.{Held, new-held, after-held}
 use Rattle.demands.proofs.Polls.{read-other, polled-item, same-item, shows-it, poll-read-as, fits-words, item-means, typed-reads}
@@ -147,7 +144,7 @@ module _ (v : View) (good : T (passes v)) where
       one-word = λ o w. one-word o (wide w);
       equal-words = λ o w e. equal-words (wide w) o (halves (sym shown) e);
       differ = λ o d w a. differ (wide w) o d (λ e. a (halves shown e));
-      cells-differ = λ o d w a rows all k c.
+      cells-differ = λ o rows d w a all k c.
           let cells = one-by-one v good (p .request) (replyTo v m (p .request) (p .buffer)) (named (g .ratios) o) (rows .values) (rows .kinds) .each (p .asks .count) all (p .index) (p .below) in
           cells-differ (wide w) o d (λ e. a (halves shown e)) (cells .reading) (cells .given) (sym (cells .kind) ∙ k) (sym (cells .value) ∙ c);
     }

@@ -79,7 +79,7 @@ module _ (v : View) where
           (o : Order) → (o ≡ g .order → ⊥) → width ≡ 2 → (upperWord ≡ lowerWord → ⊥) →
           (told (readBy o) ≡ refusedBy 13) ⊎ Another o
       pub cells-differ :
-          (o : Order) → (o ≡ g .order → ⊥) → width ≡ 2 → (upperWord ≡ lowerWord → ⊥) → (rows : TwoRows) →
+          (o : Order) (rows : TwoRows) → (o ≡ g .order → ⊥) → width ≡ 2 → (upperWord ≡ lowerWord → ⊥) →
           WholeGives v (p .request) (replyTo v m (p .request) (p .buffer)) (named (g .ratios) o) (rows .values) (rows .kinds)
           (0 ∷ p .asks .count ∷ []) →
           getD (wholeBy o rows .kinds) (p .index) 0 ≡ kindOf (meaningOf m q) →

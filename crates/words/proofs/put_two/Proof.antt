@@ -1,5 +1,5 @@
 -- Two words stored one behind the other are one run of stores.
-use mathlib.Core.Path.{_≡_, ap, _∙_}
+use mathlib.Core.Path.{ap, _∙_}
 use mathlib.Core.List.{List}
 use Prim.Native.Nat.{ℕ, _+_}
 use lib.Seq.{sets}
