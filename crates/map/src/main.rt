@@ -12,7 +12,7 @@ fn main() {
     say::text(
         b"# The register map\n\n\
         The program `map` prints this document from the table that the board and the collector go by, and the gate compares.\n\
-        Below 0x1000 addresses count bytes, from there on words. L is two words, upper word first; W is one word; B is one byte, sent as a word.\n\
+        Below 0x1000 addresses count bytes, from there on words. L is two words, in the order that the meter names; W is one word; B is one byte, sent as a word.\n\
         The step of an energy register and the unit of a power go by the ratios KTA and KTV.\n",
     );
     rows();
