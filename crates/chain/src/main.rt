@@ -7,10 +7,14 @@ ghost use mathlib.Core.Path.{_≡_};
 ghost use Prim.Native.Nat.{_≤_};
 ghost use lib.ListN.{length};
 use board::Answer;
+use board::Answered;
+use board::Given;
 use board::Meter;
+use board::Order;
 use board::Powers;
 use board::Reply;
 use collector::Joined;
+use collector::Nameplate;
 use collector::Quantity;
 use collector::Ratios;
 
@@ -44,7 +48,7 @@ fn main() {
 
 fn from_samples() {
     let ratios = Ratios { kta: 40, ktv: 10 };
-    let new = Meter::new(1, ratios);
+    let new = made(ratios);
     let answer = new.answer;
     if let Answer::Refused(reason) = answer {
         tell::refused(reason);
@@ -55,6 +59,16 @@ fn from_samples() {
     let exact = after.accepted * A_SECOND;
     tell::exact(after.accepted, exact);
     three_places(after.meter, ratios, exact / Meter::ONE_WH);
+}
+
+// A new meter of address 1. Paper 01's meters send the upper word first.
+fn made(ratios: Ratios) -> Answered {
+    Meter::of(Given {
+        address: 1,
+        second: Given::NO_SECOND,
+        ratios,
+        order: Order::UpperFirst,
+    })
 }
 
 struct Sampled {
@@ -99,7 +113,7 @@ fn large_transformers() {
 // A meter whose +Ea stands where years of samples would have brought it.
 fn years(kta: u16, ktv: u16, wh: u64) {
     let ratios = Ratios { kta, ktv };
-    let new = Meter::new(1, ratios);
+    let new = made(ratios);
     let mut meter = new.meter;
     meter.counters.active.positive.wh.0 = wh;
     tell::years(ratios, wh);
@@ -164,7 +178,11 @@ fn poll(meter: Meter, request: &[u8], buffer: &mut [u8]) -> usize
 // The collector reads one item of a reply. An error code or a refusal is told here, and handed on as a plain word, which its caller
 // does not take for part of an energy.
 fn read(request: &[u8], reply: &[u8], ratios: Ratios, index: usize) -> Quantity {
-    let answer = collector::read(request, reply, ratios, index);
+    let plate = Nameplate {
+        ratios,
+        order: Order::UpperFirst,
+    };
+    let answer = collector::read(request, reply, plate, index);
     let collector::Answer::Reading(quantity) = answer else {
         tell::unread(answer);
         return Quantity::Plain(0);

@@ -1,17 +1,31 @@
 // A meter that takes the same sample every second, and all that its registers then show.
 use meter::Meter;
+use meter::given::Given;
 use meter::samples::Powers;
 use meter::samples::Sample;
 use own::table::TABLE;
 use ratio::Ratios;
+use words::Order;
 
 const SAMPLE_TURNS: u32 = 1000;
 
 const SHOWN_TURNS: u32 = 1000;
 
+// A new meter without transformers, which sends the upper word first.
+pub fn new() -> Meter {
+    let ratios = Ratios { kta: 1, ktv: 10 };
+    let made = Meter::of(Given {
+        address: 1,
+        second: Given::NO_SECOND,
+        ratios,
+        order: Order::UpperFirst,
+    });
+    made.meter
+}
+
 pub fn counted() -> u64 {
-    let new = Meter::new(1, Ratios { kta: 1, ktv: 10 });
-    let mut sample = new.meter.latest;
+    let new = new();
+    let mut sample = new.latest;
     let p = Powers {
         l1: 120_000,
         l2: 120_000,
@@ -24,7 +38,7 @@ pub fn counted() -> u64 {
     };
     sample.p = p;
     sample.q = q;
-    let m = after(new.meter, sample);
+    let m = after(new, sample);
     m.counters.active.positive.wh.0 / 2 + shown(m) as u64
 }
 

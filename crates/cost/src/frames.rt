@@ -1,12 +1,10 @@
 // A meter that answers what stands on standard input, a frame, again and again.
-use meter::Meter;
-use ratio::Ratios;
+use crate::figures;
 
 const FRAME_TURNS: u32 = 1000;
 
 pub fn answered(frame: &[u8]) -> u8 {
-    let new = Meter::new(1, Ratios { kta: 1, ktv: 10 });
-    let mut meter = new.meter;
+    let mut meter = figures::new();
     let mut buffer = [0u8; 256];
     let mut k: u32 = 0;
     while k < FRAME_TURNS {

@@ -1,9 +1,11 @@
 // A collector that reads the items of a meter's reply to the frame on standard input, one by one or by one call, again and again.
+use crate::figures;
 use board::Reply;
 use collector::Answer;
+use collector::Nameplate;
+use collector::Order;
 use collector::Quantity;
 use collector::Whole;
-use meter::Meter;
 use ratio::Ratios;
 
 const READ_TURNS: u32 = 1000;
@@ -15,29 +17,36 @@ const READ_FROM: usize = 0;
 
 const READ_ITEMS: usize = 28;
 
-pub fn collected(request: &[u8], whole: bool) -> u64 {
+// What the collector is told of the meter.
+pub fn plate() -> Nameplate {
     let ratios = Ratios { kta: 1, ktv: 10 };
-    let new = Meter::new(1, ratios);
+    Nameplate {
+        ratios,
+        order: Order::UpperFirst,
+    }
+}
+
+pub fn collected(request: &[u8], whole: bool) -> u64 {
     let mut buffer = [0u8; 256];
-    let handled = board::handle(new.meter, request, &mut buffer);
+    let handled = board::handle(figures::new(), request, &mut buffer);
     let did = handled.reply;
     let Reply::Sent(n) = did else {
         return 0;
     };
     let reply = &buffer[..n];
     if whole {
-        return wholly(request, reply, ratios);
+        return wholly(request, reply, plate());
     }
-    again(request, reply, ratios)
+    again(request, reply, plate())
 }
 
-fn wholly(request: &[u8], reply: &[u8], ratios: Ratios) -> u64 {
+fn wholly(request: &[u8], reply: &[u8], plate: Nameplate) -> u64 {
     let mut values = [0u64; 64];
     let mut kinds = [0u8; 64];
     let mut sum: u64 = 0;
     let mut k: u32 = 0;
     while k < WHOLE_TURNS {
-        let whole = collector::read_whole(request, reply, ratios, &mut values, &mut kinds);
+        let whole = collector::read_whole(request, reply, plate, &mut values, &mut kinds);
         sum = sum | items(whole);
         k += 1;
     }
@@ -52,21 +61,21 @@ pub fn items(whole: Whole) -> u64 {
     }
 }
 
-fn again(request: &[u8], reply: &[u8], ratios: Ratios) -> u64 {
+fn again(request: &[u8], reply: &[u8], plate: Nameplate) -> u64 {
     let mut sum: u64 = 0;
     let mut k: u32 = 0;
     while k < READ_TURNS {
-        sum = sum | turn(request, reply, ratios);
+        sum = sum | turn(request, reply, plate);
         k += 1;
     }
     sum
 }
 
-fn turn(request: &[u8], reply: &[u8], ratios: Ratios) -> u64 {
+fn turn(request: &[u8], reply: &[u8], plate: Nameplate) -> u64 {
     let mut sum: u64 = 0;
     let mut i: usize = 0;
     while i < READ_ITEMS {
-        sum = sum | value(collector::read(request, reply, ratios, READ_FROM + i));
+        sum = sum | value(collector::read(request, reply, plate, READ_FROM + i));
         i += 1;
     }
     sum

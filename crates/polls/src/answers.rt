@@ -1,13 +1,24 @@
 // What the collector makes of a reply, item by item and in words.
 use collector::Answer;
 use collector::Count;
+use collector::Nameplate;
+use collector::Order;
 use collector::Quantity;
 use collector::Ratios;
 use collector::Signed;
 use collector::WattHours;
 
+// What a collector is told of a meter that sends the upper word first, as the documents' meters do.
+pub fn plate(kta: u16, ktv: u16) -> Nameplate {
+    let ratios = Ratios { kta, ktv };
+    Nameplate {
+        ratios,
+        order: Order::UpperFirst,
+    }
+}
+
 // The first items of a reply, a line each.
-pub fn read(name: &[u8], request: &[u8], reply: &[u8], told: Ratios, items: usize) {
+pub fn read(name: &[u8], request: &[u8], reply: &[u8], told: Nameplate, items: usize) {
     let mut index: usize = 0;
     while index < items {
         item(name, request, reply, told, index);
@@ -15,7 +26,7 @@ pub fn read(name: &[u8], request: &[u8], reply: &[u8], told: Ratios, items: usiz
     }
 }
 
-fn item(name: &[u8], request: &[u8], reply: &[u8], told: Ratios, index: usize) {
+fn item(name: &[u8], request: &[u8], reply: &[u8], told: Nameplate, index: usize) {
     say::text(name);
     say::field(b", item ", index as u64);
     say::text(b": ");

@@ -1,10 +1,10 @@
 // 003's read of 100 V, then the same with one thing wrong at a time: each reason to refuse a reading. 12 stands at the end of
 // 003's two voltages, and 13 takes a read of its own.
 use crate::answers;
-use collector::Ratios;
+use collector::Nameplate;
 
 pub fn examples() {
-    let told = Ratios { kta: 1, ktv: 10 };
+    let told = answers::plate(1, 10);
     let request: &[u8] = b"\x01\x03\x03\x01\x00\x02\x95\x8F";
     let reply: &[u8] = b"\x01\x03\x04\x00\x01\x86\xA0\xC9\xEB";
     answers::read(b"003 answer, 100 V", request, reply, told, 1);
@@ -20,12 +20,12 @@ fn ratios(request: &[u8], reply: &[u8]) {
         b"told a KTV of 9 tenths",
         request,
         reply,
-        Ratios { kta: 1, ktv: 9 },
+        answers::plate(1, 9),
         1,
     );
 }
 
-fn requests(reply: &[u8], told: Ratios) {
+fn requests(reply: &[u8], told: Nameplate) {
     answers::read(
         b"request from 0x0302",
         b"\x01\x03\x03\x02\x00\x02\x65\x8F",
@@ -42,7 +42,7 @@ fn requests(reply: &[u8], told: Ratios) {
     );
 }
 
-fn replies(request: &[u8], told: Ratios) {
+fn replies(request: &[u8], told: Nameplate) {
     answers::read(b"reply of 4 bytes", request, b"\x01\x03\x40\x21", told, 1);
     answers::read(
         b"reply with a damaged CRC",
@@ -68,7 +68,7 @@ fn replies(request: &[u8], told: Ratios) {
 }
 
 // A good error reply gives its code for any item, also past the last.
-fn codes(request: &[u8], told: Ratios) {
+fn codes(request: &[u8], told: Nameplate) {
     answers::read(b"error reply", request, b"\x01\x83\x02\xC0\xF1", told, 2);
     answers::read(
         b"error reply of code 4",
@@ -88,7 +88,7 @@ fn codes(request: &[u8], told: Ratios) {
 
 // One word where two were asked for; then two that fit, and hold what no meter shows. The sequence would be 1 but for the upper
 // byte of its B.
-fn data(request: &[u8], told: Ratios) {
+fn data(request: &[u8], told: Nameplate) {
     answers::read(
         b"data of 1 word",
         request,

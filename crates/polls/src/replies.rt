@@ -1,22 +1,19 @@
 // The documents' replies, and some of our own making: between them they show every kind of reading.
 use crate::answers;
-use collector::Ratios;
+use collector::Nameplate;
 
 pub fn examples() {
-    let direct = Ratios { kta: 1, ktv: 10 };
+    let direct = answers::plate(1, 10);
     of_003(direct);
     of_004(direct);
     mixed(direct);
-    transformed(Ratios {
-        kta: 5_000,
-        ktv: 10,
-    });
+    transformed(answers::plate(5_000, 10));
     whole(direct);
     parts(direct);
 }
 
 // Two voltages, and an item past them.
-fn of_003(told: Ratios) {
+fn of_003(told: Nameplate) {
     answers::read(
         b"003 answer, two voltages",
         b"\x01\x03\x03\x01\x00\x04\x15\x8D",
@@ -26,7 +23,7 @@ fn of_003(told: Ratios) {
     );
 }
 
-fn of_004(told: Ratios) {
+fn of_004(told: Nameplate) {
     answers::read(
         b"004 answer, two energies at KTA 1, KTV 10",
         b"\x01\x03\x10\x1C\x00\x04\x81\x0F",
@@ -38,7 +35,7 @@ fn of_004(told: Ratios) {
 
 // W, B and L in one run, so that an item's place is not its index: the factor of -98 hundredths is a meter's for -985
 // thousandths, and the count the largest that a register shows.
-fn mixed(told: Ratios) {
+fn mixed(told: Nameplate) {
     answers::read(
         b"9 words from 0x0339",
         b"\x01\x03\x03\x39\x00\x09\x55\x85",
@@ -49,7 +46,7 @@ fn mixed(told: Ratios) {
 }
 
 // From a KTA of 5,000 on P is in whole watts. What a meter says of its own ratios is read as it stands.
-fn transformed(told: Ratios) {
+fn transformed(told: Nameplate) {
     answers::read(
         b"4 words from 0x0315 at KTA 5000, KTV 10",
         b"\x01\x03\x03\x15\x00\x04\x55\x89",
@@ -67,7 +64,7 @@ fn transformed(told: Ratios) {
 }
 
 // Powers that are whole at any ratios: a signed one, with the factor in thousandths behind it, and S.
-fn whole(told: Ratios) {
+fn whole(told: Nameplate) {
     answers::read(
         b"4 words from 0x1526",
         b"\x01\x03\x15\x26\x00\x04\xA1\xCE",
@@ -85,7 +82,7 @@ fn whole(told: Ratios) {
 }
 
 // What an energy is joined from.
-fn parts(told: Ratios) {
+fn parts(told: Nameplate) {
     answers::read(
         b"4 words from 0x1500",
         b"\x01\x03\x15\x00\x00\x04\x40\x05",

@@ -1,7 +1,6 @@
 // 003's read of 100 V, then the same with one thing wrong at a time: each reason to refuse a reply, and the error code. No cell may
 // change. 12 cannot occur, 13 takes a read of its own, and 15 is in `short`.
 use crate::rows;
-use collector::Ratios;
 
 pub fn examples() {
     let request: &[u8] = b"\x01\x03\x03\x01\x00\x02\x95\x8F";
@@ -11,7 +10,7 @@ pub fn examples() {
         b"told a KTV of 9 tenths",
         request,
         reply,
-        Ratios { kta: 1, ktv: 9 },
+        rows::plate(1, 9),
         2,
         2,
     );

@@ -1,7 +1,6 @@
 // The replies that `polls` reads item by item, under the same names: every kind of reading is among them. The rows have one cell
 // more than there are items, which stays.
 use crate::rows;
-use collector::Ratios;
 
 // An energy's cell is its count, whatever the step. From 0x0339 on items of one word and of two take turns: a cell goes by the item's
 // index, and not by its place in the data. At a KTA of 5,000 P is in whole watts, and in hundredths in its cell.
@@ -28,10 +27,7 @@ pub fn registers() {
         b"4 words from 0x0315 at KTA 5000, KTV 10",
         b"\x01\x03\x03\x15\x00\x04\x55\x89",
         b"\x01\x03\x08\x00\x00\x13\x88\x00\x00\x00\x7B\x37\x48",
-        Ratios {
-            kta: 5_000,
-            ktv: 10,
-        },
+        rows::plate(5_000, 10),
         3,
         3,
     );

@@ -1,5 +1,7 @@
 // One call on rows of marks, and what it leaves in every cell.
 ghost use Prim.Native.Nat.{_≤_};
+use collector::Nameplate;
+use collector::Order;
 use collector::Ratios;
 use collector::Whole;
 
@@ -11,20 +13,28 @@ const KIND_MARK: u8 = 99;
 // The cells of the longest rows lent: the 9 words from 0x0339 are 8 items.
 const CELLS_MOST: usize = 9;
 
+// What a collector is told of a meter that sends the upper word first, as the documents' meters do.
+pub fn plate(kta: u16, ktv: u16) -> Nameplate {
+    let ratios = Ratios { kta, ktv };
+    Nameplate {
+        ratios,
+        order: Order::UpperFirst,
+    }
+}
+
 // Told a KTA and a KTV of 1, with so many cells in both rows.
 pub fn read(name: &[u8], request: &[u8], reply: &[u8], cells: usize)
     requires { ⌜ cells ≤ 9 ⌝ }
 {
-    let direct = Ratios { kta: 1, ktv: 10 };
-    read_with(name, request, reply, direct, cells, cells);
+    read_with(name, request, reply, plate(1, 10), cells, cells);
 }
 
-// Told these ratios, with room for so many values and so many kinds.
+// Told this plate, with room for so many values and so many kinds.
 pub fn read_with(
     name: &[u8],
     request: &[u8],
     reply: &[u8],
-    ratios: Ratios,
+    told: Nameplate,
     values: usize,
     kinds: usize,
 )
@@ -36,7 +46,7 @@ pub fn read_with(
         name,
         request,
         reply,
-        ratios,
+        told,
         &mut value_cells[..values],
         &mut kind_cells[..kinds],
     );
@@ -46,13 +56,13 @@ fn lent(
     name: &[u8],
     request: &[u8],
     reply: &[u8],
-    ratios: Ratios,
+    told: Nameplate,
     values: &mut [u64],
     kinds: &mut [u8],
 ) {
     say::text(name);
     say::text(b": ");
-    answer(collector::read_whole(request, reply, ratios, values, kinds));
+    answer(collector::read_whole(request, reply, told, values, kinds));
     say::text(b"; values");
     value_row(values);
     say::text(b"; kinds");

@@ -1,10 +1,9 @@
 // 003's two voltages in rows that have a cell for each, or too few. A meter's error code takes no cells, and so is told before a short
 // row is; an impossible value is told after it.
 use crate::rows;
-use collector::Ratios;
 
 pub fn examples() {
-    let direct = Ratios { kta: 1, ktv: 10 };
+    let direct = rows::plate(1, 10);
     let request: &[u8] = b"\x01\x03\x03\x01\x00\x04\x15\x8D";
     let reply: &[u8] = b"\x01\x03\x08\x00\x00\xD8\x85\x00\x00\x86\x9F\x68\xD9";
     let code: &[u8] = b"\x01\x83\x02\xC0\xF1";

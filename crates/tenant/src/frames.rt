@@ -1,6 +1,8 @@
 // Frames to a meter that a tenant reads too, and what it answers.
 use board::Meter;
 use board::Reply;
+use collector::Nameplate;
+use collector::Order;
 use collector::Quantity;
 
 // The meter's own address.
@@ -39,7 +41,12 @@ pub fn collect(m: Meter, start: u16, words: u8, name: &[u8]) {
         ask::unanswered(did);
         return;
     };
-    let answer = collector::read(&request, &buffer[..n], m.given.ratios, 0);
+    let ratios = m.given.ratios;
+    let plate = Nameplate {
+        ratios,
+        order: Order::UpperFirst,
+    };
+    let answer = collector::read(&request, &buffer[..n], plate, 0);
     match answer {
         collector::Answer::Reading(quantity) => figure(quantity),
         collector::Answer::Error(code) => say::error(code),

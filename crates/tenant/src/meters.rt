@@ -4,17 +4,19 @@ use board::Answer;
 use board::Answered;
 use board::Given;
 use board::Meter;
+use board::Order;
 use board::Powers;
 use board::Ratios;
 use board::Setup;
 
-// A new meter of these addresses.
+// A new meter of these addresses, which sends the upper word first.
 fn new(kta: u16, address: u8, second: u8) -> Answered {
     let ratios = Ratios { kta, ktv: 10 };
     Meter::of(Given {
         address,
         second,
         ratios,
+        order: Order::UpperFirst,
     })
 }
 
@@ -49,7 +51,7 @@ pub fn new_meters() {
     answer(b"addresses 1 and 1", new(1, 1, 1));
     answer(b"addresses 0 and 0", new(1, 0, 0));
     answer(b"KTA 0, addresses 1 and 1", new(0, 1, 1));
-    let made = Meter::new(frames::OWN, Ratios { kta: 1, ktv: 10 });
+    let made = new(1, frames::OWN, Given::NO_SECOND);
     answer(b"address 1 alone", made);
     let m = made.meter;
     ask::send(m, b"  a read to 0", &ask::read(0, 0x0301, 2));

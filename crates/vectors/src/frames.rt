@@ -1,4 +1,5 @@
 // The documents' frames: what a meter answers whose record gives the printed answer, which the file `stdout` has.
+use crate::meters;
 use board::Meter;
 use board::Ratios;
 use board::Reply;
@@ -43,8 +44,7 @@ fn ask(m: Meter, name: &[u8], frame: &[u8]) -> Meter {
 
 // A new meter that measures without transformers.
 fn new(address: u8) -> Meter {
-    let made = Meter::new(address, Ratios { kta: 1, ktv: 10 });
-    made.meter
+    meters::made(address, Ratios { kta: 1, ktv: 10 })
 }
 
 // The meter after a sample with these phase voltages.

@@ -2,20 +2,22 @@
 mod frames;
 mod meters;
 
+use board::Order;
 use board::Ratios;
 
-// A value in one word and in two, and the two read back.
+// A value in one word and in two, upper word first, and the two read back.
 fn sent(v: u32) {
     let mut w = [0u8; 2];
-    words::put(&mut w, 0, 1, v);
+    words::put(&mut w, 0, 1, Order::UpperFirst, v);
     let mut l = [0u8; 4];
-    words::put(&mut l, 0, 2, v);
+    words::put(&mut l, 0, 2, Order::UpperFirst, v);
     say::number(v as u64);
     say::text(b" is sent as");
     say::bytes(&w);
     say::text(b" or");
     say::bytes(&l);
-    say::field(b", read back ", words::value_at(&l, 0, 2) as u64);
+    let back = words::value_at(&l, 0, 2, Order::UpperFirst);
+    say::field(b", read back ", back as u64);
     say::end();
 }
 

@@ -2,7 +2,9 @@
 use board::Answer;
 use board::Answered;
 use board::Factor;
+use board::Given;
 use board::Meter;
+use board::Order;
 use board::Powers;
 use board::Ratios;
 use board::Reply;
@@ -18,10 +20,20 @@ pub fn examples() {
     energy(100_000_000_000);
 }
 
+// A new meter. Paper 01's examples have the upper word first.
+pub fn made(address: u8, ratios: Ratios) -> Meter {
+    let made = Meter::of(Given {
+        address,
+        second: Given::NO_SECOND,
+        ratios,
+        order: Order::UpperFirst,
+    });
+    made.meter
+}
+
 // A meter of address 1, new, with a step of 1,000 Wh.
 fn new() -> Meter {
-    let made = Meter::new(1, Ratios { kta: 100, ktv: 10 });
-    made.meter
+    made(1, Ratios { kta: 100, ktv: 10 })
 }
 
 // A sample of these phases and this power factor.

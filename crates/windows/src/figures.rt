@@ -1,10 +1,13 @@
 // A meter's seconds, and what the collector reads of its average, peak and minutes.
 use crate::frames;
 use board::Answer;
+use board::Given;
 use board::Meter;
+use board::Order;
 use board::Powers;
 use board::Ratios;
 use board::Reply;
+use collector::Nameplate;
 use collector::Quantity;
 
 // Where the three figures stand, in five words.
@@ -12,9 +15,15 @@ pub const BYTE_BLOCK: u16 = 0x0350;
 
 pub const WORD_BLOCK: u16 = 0x1027;
 
-// A new meter without voltage transformers.
+// A new meter without voltage transformers, which sends the upper word first.
 pub fn new(kta: u16) -> Meter {
-    let made = Meter::new(1, Ratios { kta, ktv: 10 });
+    let ratios = Ratios { kta, ktv: 10 };
+    let made = Meter::of(Given {
+        address: 1,
+        second: Given::NO_SECOND,
+        ratios,
+        order: Order::UpperFirst,
+    });
     made.meter
 }
 
@@ -79,7 +88,11 @@ fn three(request: &[u8], reply: &[u8], ratios: Ratios) {
 // One item of a reply, as the collector reads it.
 pub fn item(name: &[u8], request: &[u8], reply: &[u8], ratios: Ratios, index: usize) {
     say::text(name);
-    let answer = collector::read(request, reply, ratios, index);
+    let plate = Nameplate {
+        ratios,
+        order: Order::UpperFirst,
+    };
+    let answer = collector::read(request, reply, plate, index);
     match answer {
         collector::Answer::Reading(quantity) => figure(quantity),
         collector::Answer::Error(code) => say::error(code),

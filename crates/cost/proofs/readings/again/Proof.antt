@@ -5,10 +5,10 @@ use Rattle.cost.proofs.readings.again.Statement.{statement}
 use Rattle.cost.proofs.readings.again.Tie as tie
 
 abbrev Inv-loop : tie.InvT-loop
-Inv-loop request reply ratios sum₀ k₀ sum k = k ≤ 1000
+Inv-loop request reply plate sum₀ k₀ sum k = k ≤ 1000
 
 abbrev μ-loop : tie.MeasureT-loop
-μ-loop request reply ratios sum₀ k₀ sum k = 1000 - k
+μ-loop request reply plate sum₀ k₀ sum k = 1000 - k
 
 loop-holds : tie.Need-loop-holds Inv-loop μ-loop
 loop-holds c = search needs

@@ -34,11 +34,17 @@ array-share-prefix-buffer c = omega (arith, sent (c .before))
 slice-aggregate-reply : tie.Need-slice-aggregate-reply
 slice-aggregate-reply c = sym (length-take-le _ _ (omega (arith, sent (c .before .before))))
 
+plate-requires : tie.Need-plate-requires
+plate-requires c κs = search needs
+
 wholly-requires : tie.Need-wholly-requires
 wholly-requires c κs = search needs
 
 returns-2 : tie.Need-returns-2
 returns-2 c = search needs
+
+plate-requires-2 : tie.Need-plate-requires-2
+plate-requires-2 c κs = search needs
 
 again-requires : tie.Need-again-requires
 again-requires c κs = search needs
@@ -57,7 +63,9 @@ collected-spec =
     returns
     array-share-prefix-buffer
     slice-aggregate-reply
+    plate-requires
     wholly-requires
     returns-2
+    plate-requires-2
     again-requires
     returns-3)

@@ -5,10 +5,10 @@ use Rattle.cost.proofs.readings.turn.Statement.{statement}
 use Rattle.cost.proofs.readings.turn.Tie as tie
 
 abbrev Inv-loop : tie.InvT-loop
-Inv-loop request reply ratios sum₀ i₀ sum i = i ≤ 28
+Inv-loop request reply plate sum₀ i₀ sum i = i ≤ 28
 
 abbrev μ-loop : tie.MeasureT-loop
-μ-loop request reply ratios sum₀ i₀ sum i = 28 - i
+μ-loop request reply plate sum₀ i₀ sum i = 28 - i
 
 loop-holds : tie.Need-loop-holds Inv-loop μ-loop
 loop-holds c = search needs

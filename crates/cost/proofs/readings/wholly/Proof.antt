@@ -7,10 +7,10 @@ use Rattle.cost.proofs.readings.wholly.Statement.{statement}
 use Rattle.cost.proofs.readings.wholly.Tie as tie
 
 abbrev Inv-loop : tie.InvT-loop
-Inv-loop request reply ratios values₀ kinds₀ sum₀ k₀ values kinds sum k = (k ≤ 1000) × (length values ≡ 64) × (length kinds ≡ 64)
+Inv-loop request reply plate values₀ kinds₀ sum₀ k₀ values kinds sum k = (k ≤ 1000) × (length values ≡ 64) × (length kinds ≡ 64)
 
 abbrev μ-loop : tie.MeasureT-loop
-μ-loop request reply ratios values₀ kinds₀ sum₀ k₀ values kinds sum k = 1000 - k
+μ-loop request reply plate values₀ kinds₀ sum₀ k₀ values kinds sum k = 1000 - k
 
 loop-holds : tie.Need-loop-holds Inv-loop μ-loop
 loop-holds c = search needs

@@ -39,10 +39,10 @@ slice-aggregate-read : tie.Need-slice-aggregate-read
 slice-aggregate-read c = search needs
 
 array-share-prefix-buffer : tie.Need-array-share-prefix-buffer
-array-share-prefix-buffer c = omega (arith, sent (c .before .before))
+array-share-prefix-buffer c = omega (arith, sent (c .before .before .before))
 
 slice-aggregate-read-2 : tie.Need-slice-aggregate-read-2
-slice-aggregate-read-2 c = sym (length-take-le _ _ (omega (arith, sent (c .before .before .before))))
+slice-aggregate-read-2 c = sym (length-take-le _ _ (omega (arith, sent (c .before .before .before .before))))
 
 read-requires-2 : tie.Need-read-requires-2
 read-requires-2 c κs = search needs
