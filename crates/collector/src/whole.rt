@@ -74,14 +74,7 @@ fn with_table(
         Judgement::Items { first, count } => {
             let asked = directory::part(table, first, count);
             let order = plate.order;
-            fill(
-                asked,
-                reply,
-                order,
-                plate.ratios.tenths(),
-                values,
-                kinds,
-            )
+            fill(asked, reply, order, plate.ratios.tenths(), values, kinds)
         }
         Judgement::Error(code) => Whole::Error(code),
         Judgement::Refused(reason) => Whole::Refused(reason),
@@ -90,7 +83,14 @@ fn with_table(
 
 // Fills the rows, from a data reply that fits the request. What is read is kept apart until all of it is: the last item may yet be
 // refused.
-fn fill(asked: &[u16], reply: &[u8], order: Order, tenths: u32, values: &mut [u64], kinds: &mut [u8]) -> Whole
+fn fill(
+    asked: &[u16],
+    reply: &[u8],
+    order: Order,
+    tenths: u32,
+    values: &mut [u64],
+    kinds: &mut [u8],
+) -> Whole
     requires { ⌜ T (every shaped (items (now asked))) × T (every meant (items (now asked))) ⌝ }
     requires { ⌜ (3 + 2 * wordsOf (items (now asked)) ≤ length (now reply)) × (wordsOf (items (now asked)) ≤ 125) ⌝ }
     ensures { λ r. ⌜ Filled (filledBy (inTurn (length (items (now (asked .entry)))) (itemOf order tenths (items (now (asked .entry))) (now (reply .entry)))) (now (values .entry)) (now (kinds .entry))) r (now (values .exit)) (now (kinds .exit)) ⌝ }
@@ -109,7 +109,14 @@ fn fill(asked: &[u16], reply: &[u8], order: Order, tenths: u32, values: &mut [u6
 }
 
 // Reads the items in turn, each behind the words of the one before it. Whether none of them is refused.
-fn all_read(asked: &[u16], reply: &[u8], order: Order, tenths: u32, cells: &mut [u64], numbers: &mut [u8]) -> bool
+fn all_read(
+    asked: &[u16],
+    reply: &[u8],
+    order: Order,
+    tenths: u32,
+    cells: &mut [u64],
+    numbers: &mut [u8],
+) -> bool
     requires { ⌜ T (every shaped (items (now asked))) × T (every meant (items (now asked))) ⌝ }
     requires { ⌜ 3 + 2 * wordsOf (items (now asked)) ≤ length (now reply) ⌝ }
     requires { ⌜ (length (items (now asked)) ≤ length (now cells)) × (length (items (now asked)) ≤ length (now numbers)) ⌝ }

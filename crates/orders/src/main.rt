@@ -62,10 +62,11 @@ fn single_words(m: Meter) {
     frames::first(m, b"0x0358", &ask::read(OWN, 0x0358, 1));
 }
 
-// Each L is turned in its own place: Low stays before High.
+// Each L is turned in its own place: Low stays before High. Two W are no L: KTA stays before KTV.
 fn several(m: Meter) {
     frames::whole(m, b"6 words from 0x1000", &ask::read(OWN, 0x1000, 6));
     frames::whole(m, b"4 words from 0x1500", &ask::read(OWN, 0x1500, 4));
+    frames::whole(m, b"2 words from 0x1200", &ask::read(OWN, 0x1200, 2));
 }
 
 fn unnamed(m: Meter) {
