@@ -62,11 +62,11 @@ fn single_words(m: Meter) {
     frames::first(m, b"0x0358", &ask::read(OWN, 0x0358, 1));
 }
 
-// Each L is turned in its own place: Low stays before High. Two W are no L: KTA stays before KTV.
+// Each L is turned in its own place: Low stays before High. Two W are no L: the identifier stays before the phase sequence.
 fn several(m: Meter) {
     frames::whole(m, b"6 words from 0x1000", &ask::read(OWN, 0x1000, 6));
     frames::whole(m, b"4 words from 0x1500", &ask::read(OWN, 0x1500, 4));
-    frames::whole(m, b"2 words from 0x1200", &ask::read(OWN, 0x1200, 2));
+    frames::whole(m, b"2 words from 0x1204", &ask::read(OWN, 0x1204, 2));
 }
 
 fn unnamed(m: Meter) {
