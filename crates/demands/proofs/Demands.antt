@@ -37,7 +37,7 @@ use Rattle.demands.proofs.Tenant.{second-is-named, at-second, tenant-as
 use Rattle.demands.proofs.Fills.{averages-always}
 use Rattle.demands.proofs.Determined.{determined, numbered}
 use Rattle.demands.proofs.Starred.{examples-hold, order-examples}
-use Rattle.demands.proofs.Orders.{orders-always}
+use Rattle.demands.proofs.Orders.{orders-always, volts-read, volts-polled}
 use Rattle.demands.proofs.ShutOut.{shut-out}
 
 pub demand-1 : Demand1
@@ -130,7 +130,7 @@ pub wholes : Wholes
 wholes = record { when = whole-when; one-by-one = one-by-one; always = whole-always; energies = whole-demand-3 }
 
 pub buyers-order : BuyersOrder
-buyers-order = record { always = orders-always; examples = order-examples }
+buyers-order = record { always = orders-always; volts = volts-read; polled = volts-polled; examples = order-examples }
 
 pub demands : Demands
 demands = record { one = demand-1; two = demand-2; three = demand-3; polled = every-item-polled; not-empty = not-empty; tight = shut-out; tenants = tenants; wholes = wholes; buyers-order = buyers-order }

@@ -382,7 +382,7 @@ module _ (v : View) (good : T (passes v)) where
     -- ---- the same of a meter as a program holds it: what the item shows fits its words
 
     module _ (typed : Typed m) where
-      known-item : p .asks .first + p .index < length (v .seen)
+      pub known-item : p .asks .first + p .index < length (v .seen)
       known-item = omega (arith, p .below, legal-read v good (polls .items) .inside)
 
       shows-typed : Shows m (polled-item .quantity)

@@ -54,7 +54,7 @@ use Rattle.demands.specs.Wholes.{WholeAlways, WholeDemand3}
 use Rattle.demands.specs.Determined.{Determined, Numbered}
 use Rattle.demands.specs.ShutOut.{ShutOut}
 use Rattle.demands.specs.Starred.{ExamplesHold}
-use Rattle.demands.specs.Orders.{OrdersAlways, OrderExamples}
+use Rattle.demands.specs.Orders.{OrdersAlways, VoltsRead, VoltsPolled, OrderExamples}
 
 -- what is said of every view that passes the tests, paper 01's own among them (`OwnPasses.passed`)
 abbrev pub EveryView : (View → Type 0) → Type 0
@@ -178,11 +178,13 @@ pub record Wholes : Type 0 where
   pub always : EveryView WholeAlways
   pub energies : EveryView WholeDemand3
 
--- STATEMENT: request 5, of the order of words: which one a meter has, what is read where both ends name the same and where they do not, and
--- examples. (What an order is to words is `Orders`; that the bytes of each reply go by the record's, at either address, is `Obeys.reads`; that
--- all of demand 3 and of the round trip is told the meter's own is `plateOf`.)
+-- STATEMENT: request 5, of the order of words: which one a meter has, what is read where both ends name the same and where they do not, that
+-- there is an L that shows it, and examples. (What an order is to words is `Orders`; that each reply goes by the record's, at either
+-- address, is `Obeys.reads`; demand 3 and the round trip are told the meter's own, `plateOf`.)
 pub record BuyersOrder : Type 0 where
   pub always : EveryView OrdersAlways
+  pub volts : EveryView VoltsRead
+  pub polled : VoltsPolled
   pub examples : OrderExamples
 
 -- STATEMENT: the three; demand 3: one energy, read in any of the three places, is never above the exact energy of the samples

@@ -72,8 +72,8 @@ module _ (v : View) where
     pub event : (m : Meter) (x : Event) → Typed m → EventTyped x → Typed (afterEvent m x)
     pub events : (m : Meter) (xs : List Event) → Typed m → AllTyped xs → Typed (afterAll m xs)
 
-  -- STATEMENT: after any events a record is still within limits, what it was given (addresses, ratios, order) is as it was, and each energy,
-  -- Wh × 360,000 + remainder, has grown by the exact energy of the samples accepted
+  -- STATEMENT: after any events a record is still within limits, what it was given (addresses, ratios, order) is as it was, and each
+  -- energy, Wh × 360,000 + remainder, has grown by the exact energy of the samples accepted
   pub record AfterEvents : Type 0 where
     pub within : (m : Meter) (xs : List Event) → meterOk m ≡ true → meterOk (afterAll m xs) ≡ true
     pub given : (m : Meter) (xs : List Event) → afterAll m xs .given ≡ m .given

@@ -128,7 +128,8 @@ module _ (v : View) where
           FromTenant → Sound frame → functionOf frame < 0x80 → (functionOf frame ≡ 0x03 → ⊥) →
           answered ≡ sentOf (errorBytes frame 1) m b
       pub reads :
-          FromTenant → Sound frame → functionOf frame ≡ 0x03 → answered ≡ sentOf (readReply (tenantOf v) (m .given .order) (shownOf m) frame) m b
+          FromTenant → Sound frame → functionOf frame ≡ 0x03 →
+          answered ≡ sentOf (readReply (tenantOf v) (m .given .order) (shownOf m) frame) m b
       pub address : FromTenant → (n : ℕ) → answered .handled .reply ≡ Sent n → addressOf (replyTo v m frame b) ≡ m .given .second
 
   -- STATEMENT: there are such frames, of every function and not damaged: four bytes
