@@ -68,17 +68,19 @@ module _ (v : View) where
     abbrev pub width : ℕ
     width = itemAt (viewFor v (toSecond g (p .request))) (p .asks) (p .index) .words
 
-    -- the upper word and the lower word of what is shown
+    -- the upper word of what is shown
     abbrev upperWord : ℕ
     upperWord = shownOf m q / 65536
 
+    -- and the lower
     abbrev lowerWord : ℕ
     lowerWord = shownOf m q % 65536
 
-    -- what the collector, told the meter's ratios and some order, makes of the reply: one item, and all of them in two rows
+    -- what the collector, told the meter's ratios and some order, makes of the item in the reply
     abbrev pub readBy : Order → Answer
     readBy o = collectorIn v (p .request) (replyTo v m (p .request) (p .buffer)) (named (g .ratios) o) (p .index)
 
+    -- and of all items, in two rows
     abbrev pub wholeBy : Order → TwoRows → Rows
     wholeBy o rows = wholeIn v (p .request) (replyTo v m (p .request) (p .buffer)) (named (g .ratios) o) (rows .values) (rows .kinds)
 
