@@ -72,6 +72,7 @@ either LowerFirst LowerFirst = inl refl
 either UpperFirst LowerFirst = inr (λ e. let z = ap orderNumber e in omega (arith, z))
 either LowerFirst UpperFirst = inr (λ e. let z = ap orderNumber e in omega (arith, z))
 
+-- the sample of 100,000 mV is one that a program can hand over
 volts-typed : SampleTyped volts
 volts-typed = record { voltages = refl; currents = refl; voltage = first; current = blank-sample .current; frequency = omega arith }
   where
