@@ -1,6 +1,4 @@
 pub mod Places
-pub mod Requests
-pub mod Judged
 pub mod Parts
 pub mod When
 pub mod Turns

@@ -15,9 +15,9 @@ use Rattle.directory.specs.Views.{viewOf, Lent}
 use Rattle.directory.proofs.Order.{every-run}
 use Rattle.directory.proofs.Views.{tested-shaped, tested-meant, passes-tested}
 use Rattle.modbus.proofs.Judged.{legal-read, asked-part}
-use Rattle.collector.specs.declared.Judgement.the-variants.{Items}
-use Rattle.collector.specs.Collector.{judgedIn}
-use Rattle.collector.proofs.Judged.{data-judged, fitting}
+use Rattle.replies.specs.declared.Judgement.the-variants.{Items}
+use Rattle.replies.specs.Judged.{judgedIn}
+use Rattle.replies.proofs.Judged.{data-judged, fitting}
 
 -- the part of a table that holds some of its items
 abbrev pub partOf : List ℕ → ℕ → ℕ → List ℕ

@@ -20,12 +20,13 @@ use Rattle.directory.specs.Views.{View}
 use Rattle.reading.specs.declared.Answer.{Answer}
 use Rattle.reading.specs.Told.{kindOf}
 use Rattle.reading.specs.Cells.{cellOf}
-use Rattle.collector.specs.declared.Judgement.{Judgement}
-use Rattle.collector.specs.declared.Judgement.the-variants as judgement
+use Rattle.replies.specs.declared.Judgement.{Judgement}
+use Rattle.replies.specs.declared.Judgement.the-variants as judgement
 use Rattle.collector.specs.declared.whole.Whole.{Whole}
 use Rattle.collector.specs.declared.whole.Whole.the-variants.{Items, Error, Refused}
 use Rattle.collector.specs.declared.Nameplate.{Nameplate}
-use Rattle.collector.specs.Collector.{judgedIn, itemOf, onData, collectorIn}
+use Rattle.replies.specs.Judged.{judgedIn}
+use Rattle.collector.specs.Collector.{itemOf, onData, collectorIn}
 use Rattle.collector.specs.Whole.{inTurn, anyThirteen, readingsIn, Rows, keptBy, filledBy, onReply, wholeIn, Filled}
 use Rattle.collector.proofs.Places.{narrow-at, run-length}
 use Rattle.collector.proofs.Turns.{turns-same}

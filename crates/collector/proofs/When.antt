@@ -38,14 +38,15 @@ use Rattle.reading.specs.declared.Answer.the-variants.{Reading, Error, Refused}
 use Rattle.reading.specs.Told.{told}
 use Rattle.reading.specs.Readings.{thirteen, quantitiesOf, readingOf}
 use Rattle.reading.proofs.Cells.{quantityIn}
-use Rattle.collector.specs.declared.Judgement.{Judgement}
-use Rattle.collector.specs.declared.Judgement.the-variants as judgement
+use Rattle.replies.specs.declared.Judgement.{Judgement}
+use Rattle.replies.specs.declared.Judgement.the-variants as judgement
 use Rattle.collector.specs.declared.Nameplate.{Nameplate}
-use Rattle.collector.specs.Collector.{heard, lengthWrong, isReadError, foreign, thirdOf, codeOf, errorOf, misfit, replyOf, judgedIn, placeOf, itemOf, onData, collectorIn}
+use Rattle.replies.specs.Judged.{heard, lengthWrong, isReadError, foreign, thirdOf, codeOf, errorOf, misfit, replyOf, judgedIn}
+use Rattle.collector.specs.Collector.{placeOf, itemOf, onData, collectorIn}
 use Rattle.collector.specs.Whole.{isThirteen}
 use Rattle.collector.specs.When.{Asks, Asked, Sound, Fits, askedBy, Holds, itemAt, valueIn, errorMisfit, ForeignReply, Misfits, Past, Impossible, ReplyGives, GivesCode, Reads, RepliesWhen, NotMisread}
 use Rattle.collector.proofs.Places.{run-length, run-at, item-past, item-reads}
-use Rattle.collector.proofs.Judged.{length-refused, crc-refused, foreign-refused, error-given, misfit-refused, data-given, fitting}
+use Rattle.replies.proofs.Judged.{length-refused, crc-refused, foreign-refused, error-given, misfit-refused, data-given, fitting}
 
 -- ---- the error code of a reply
 

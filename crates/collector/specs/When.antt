@@ -28,7 +28,8 @@ use Rattle.reading.specs.declared.Answer.the-variants.{Reading, Error}
 use Rattle.reading.specs.Told.{told}
 use Rattle.reading.specs.Readings.{thirteen, readingOf}
 use Rattle.collector.specs.declared.Nameplate.{Nameplate}
-use Rattle.collector.specs.Collector.{heard, lengthWrong, isReadError, foreign, thirdOf, misfit, placeOf, collectorIn}
+use Rattle.replies.specs.Judged.{heard, lengthWrong, isReadError, foreign, thirdOf, misfit}
+use Rattle.collector.specs.Collector.{placeOf, collectorIn}
 
 -- 11, of 0x83: length not 5 or code not 1 to 3
 abbrev pub errorMisfit : List ℕ → Bool

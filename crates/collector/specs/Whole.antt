@@ -21,11 +21,12 @@ use Rattle.reading.specs.Told.{kindOf}
 use Rattle.reading.specs.Readings.{thirteen}
 use Rattle.reading.specs.Cells.{cellOf, readBack}
 use Rattle.collector.specs.declared.Nameplate.{Nameplate}
-use Rattle.collector.specs.declared.Judgement.{Judgement}
-use Rattle.collector.specs.declared.Judgement.the-variants as judgement
+use Rattle.replies.specs.declared.Judgement.{Judgement}
+use Rattle.replies.specs.declared.Judgement.the-variants as judgement
 use Rattle.collector.specs.declared.whole.Whole.{Whole}
 use Rattle.collector.specs.declared.whole.Whole.the-variants.{Items, Error, Refused}
-use Rattle.collector.specs.Collector.{lengthWrong, judgedIn, collectorIn}
+use Rattle.replies.specs.Judged.{lengthWrong, judgedIn}
+use Rattle.collector.specs.Collector.{collectorIn}
 use Rattle.collector.specs.When.{Asks, Asked, Fits, askedBy, itemAt, valueIn, ForeignReply, Misfits, GivesCode, ReplyGives}
 
 -- an answer in numbers: 0 and how many items; the meter's error code; the number of the refusal

@@ -14,14 +14,13 @@ ghost use Rattle.reading.specs.Told.{kindOf};
 ghost use Rattle.reading.specs.Cells.{cellOf};
 ghost use Rattle.collector.specs.Collector.{itemOf};
 ghost use Rattle.collector.specs.Whole.{inTurn, anyThirteen, readingsIn, filledBy, wholeIn, wholeOf, Filled};
-use crate::Judgement;
 use crate::Nameplate;
-use crate::judge;
 use directory::Reach;
 use own::table;
 use reading::Answer;
 use refusal::ErrorCode;
 use refusal::Refusal;
+use replies::Judgement;
 use words::Order;
 
 // What a whole reply comes to: how many items there are, the meter's error code, or a refusal.
@@ -69,7 +68,7 @@ fn with_table(
     requires { ⌜ Lent (now table) reach ⌝ }
     ensures { λ r. ⌜ Filled (wholeIn (viewOf (now (table .entry)) reach) (now (request .entry)) (now (reply .entry)) plate (now (values .entry)) (now (kinds .entry))) r (now (values .exit)) (now (kinds .exit)) ⌝ }
 {
-    let judged = judge(table, reach, request, reply, plate.ratios);
+    let judged = replies::judge(table, reach, request, reply, plate.ratios);
     match judged {
         Judgement::Items { first, count } => {
             let asked = directory::part(table, first, count);

@@ -28,9 +28,9 @@ use Rattle.modbus.proofs.Judged.{read-when}
 use Rattle.meter.specs.declared.given.Given.{Given}
 use Rattle.meter.proofs.Parts.{own-address}
 use Rattle.board.specs.Board.{toSecond, viewFor}
-use Rattle.collector.specs.Collector.{heard}
+use Rattle.replies.specs.Judged.{heard}
 use Rattle.collector.specs.When.{Asks}
-use Rattle.collector.proofs.Requests.{heard-so}
+use Rattle.replies.proofs.Requests.{heard-so}
 use Rattle.demands.specs.Polled.{requestFor, EveryItemPolled}
 use Rattle.demands.proofs.Seen.{to-second}
 use Rattle.demands.proofs.Polls.{with-data}

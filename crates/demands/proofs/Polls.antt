@@ -56,9 +56,10 @@ use Rattle.demands.proofs.Replies.{gives-long, gives-whole, echo-functi
 use Rattle.demands.proofs.Frames.{obeys, frames-when}
 use Rattle.demands.proofs.Seen.{to-own, named-address, whole}
 use Rattle.collector.specs.declared.Nameplate.{Nameplate}
-use Rattle.collector.specs.Collector.{heard, isReadError, placeOf, collectorIn}
+use Rattle.replies.specs.Judged.{heard, isReadError}
+use Rattle.collector.specs.Collector.{placeOf, collectorIn}
 use Rattle.collector.specs.When.{Asks, Asked, Fits, itemAt, valueIn, ReplyGives}
-use Rattle.collector.proofs.Requests.{Hears, hears, heard-so}
+use Rattle.replies.proofs.Requests.{Hears, hears, heard-so}
 use Rattle.collector.proofs.Places.{run-length, run-at}
 use Rattle.collector.proofs.When.{to-reading, replies-when}
 use Rattle.demands.specs.Meaning.{meaningOf}

@@ -10,7 +10,8 @@ use Rattle.directory.specs.Run.{findIn, runFrom, runIn, wordsOf}
 use Rattle.modbus.specs.Frame.{silence}
 use Rattle.modbus.specs.Read.{readIn}
 use Rattle.reading.specs.Readings.{oneOf, thirteen, readingOf}
-use Rattle.collector.specs.Collector.{heard, itemOf, replyOf, judgedIn, collectorIn}
+use Rattle.replies.specs.Judged.{heard, replyOf, judgedIn}
+use Rattle.collector.specs.Collector.{itemOf, collectorIn}
 use Rattle.demands.specs.Starred.{starred, ExamplesHold}
 use Rattle.demands.specs.Orders.{ordered, OrderExamples}
 

@@ -16,7 +16,7 @@ use Rattle.modbus.specs.Frame.{isRead}
 use Rattle.modbus.specs.Read.{readIn}
 use Rattle.meter.specs.declared.Meter.{Meter}
 use Rattle.meter.specs.Meters.{meterOk}
-use Rattle.collector.specs.Collector.{heard}
+use Rattle.replies.specs.Judged.{heard}
 use Rattle.demands.specs.RoundTrip.{replyTo}
 
 -- the read of one item

@@ -7,9 +7,10 @@ use Rattle.directory.specs.Item.{items}
 use Rattle.directory.specs.Views.{viewOf}
 use Rattle.ratio.specs.Ratios.{tOf}
 use Rattle.reading.specs.declared.Answer.{Answer}
-use Rattle.collector.specs.declared.Judgement.{Judgement}
-use Rattle.collector.specs.declared.Judgement.the-variants.{Items}
-use Rattle.collector.specs.Collector.{judgedIn, itemOf, onData, collectorIn}
+use Rattle.replies.specs.declared.Judgement.{Judgement}
+use Rattle.replies.specs.declared.Judgement.the-variants.{Items}
+use Rattle.replies.specs.Judged.{judgedIn}
+use Rattle.collector.specs.Collector.{itemOf, onData, collectorIn}
 use Rattle.collector.proofs.Parts.{DataPart, data-part}
 use borrow.Author.Needs.{needs}
 use Rattle.collector.proofs.with_table.Statement.{statement}

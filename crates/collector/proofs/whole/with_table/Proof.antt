@@ -6,9 +6,10 @@ use lib.ListN.{length}
 use Rattle.directory.specs.declared.Item.{Item}
 use Rattle.directory.specs.Item.{items}
 use Rattle.directory.specs.Views.{View, viewOf}
-use Rattle.collector.specs.declared.Judgement.{Judgement}
-use Rattle.collector.specs.declared.Judgement.the-variants.{Items}
-use Rattle.collector.specs.Collector.{judgedIn, itemOf}
+use Rattle.replies.specs.declared.Judgement.{Judgement}
+use Rattle.replies.specs.declared.Judgement.the-variants.{Items}
+use Rattle.replies.specs.Judged.{judgedIn}
+use Rattle.collector.specs.Collector.{itemOf}
 use Rattle.collector.specs.Whole.{inTurn, Rows, filledBy}
 use Rattle.collector.proofs.Parts.{DataPart, data-part}
 use Rattle.collector.proofs.Rows.{allowed, allowed-by, whole-coded, whole-refused, whole-items}

@@ -9,11 +9,11 @@ use lib.ListN.{length}
 use borrow.Author.Tests.{not-true, not-false, eq-eqb, ne-eqb, ltb-false}
 use Rattle.crc.specs.Crc.{intact}
 use Rattle.modbus.proofs.Frames.{neither}
-use Rattle.collector.specs.Collector.{lengthWrong}
-use Rattle.collector.proofs.Judged.{length-refused, crc-refused, foreign-refused, error-given, misfit-refused, data-given, misfit-read}
+use Rattle.replies.specs.Judged.{lengthWrong}
+use Rattle.replies.proofs.Judged.{length-refused, crc-refused, foreign-refused, error-given, misfit-refused, data-given, misfit-read}
 use borrow.Author.Needs.{needs}
-use Rattle.collector.proofs.replied.Statement.{statement}
-use Rattle.collector.proofs.replied.Tie as tie
+use Rattle.replies.proofs.replied.Statement.{statement}
+use Rattle.replies.proofs.replied.Tie as tie
 
 -- the bytes that are looked at are there
 long : (reply : List ℕ) → (ltb (length reply) 5 || ltb 256 (length reply)) ≡ false → 5 ≤ length reply

@@ -6,7 +6,7 @@ use Prim.Native.Nat.{ℕ}
 use lib.Dec.{eqb}
 use borrow.Author.Tests.{eqb-false, ne-eqb, not-true}
 use Rattle.modbus.specs.Frame.{addressOf, isRead, silence}
-use Rattle.collector.specs.Collector.{heard}
+use Rattle.replies.specs.Judged.{heard}
 
 -- a request that is heard, in its parts
 pub record Hears (request : List ℕ) : Type 0 where

@@ -19,9 +19,9 @@ use Rattle.directory.specs.Views.{View}
 use Rattle.modbus.specs.Frame.{wordNumber}
 use Rattle.modbus.specs.Read.{readIn}
 use Rattle.modbus.proofs.Frames.{neither}
-use Rattle.collector.specs.declared.Judgement.{Judgement}
-use Rattle.collector.specs.declared.Judgement.the-variants.{Items, Error, Refused}
-use Rattle.collector.specs.Collector.{lengthWrong, foreign, isReadError, thirdOf, codeOf, errorOf, misfit, replyOf, heard, onItems, judgedIn}
+use Rattle.replies.specs.declared.Judgement.{Judgement}
+use Rattle.replies.specs.declared.Judgement.the-variants.{Items, Error, Refused}
+use Rattle.replies.specs.Judged.{lengthWrong, foreign, isReadError, thirdOf, codeOf, errorOf, misfit, replyOf, heard, onItems, judgedIn}
 
 module _ (request reply : List ℕ) (asked : Judgement) where
   pub length-refused : lengthWrong reply ≡ true → Refused ReplyLength ≡ replyOf request reply asked

@@ -2,10 +2,10 @@
 use native.Mathlib.Omega.{arith}
 use lib.ListN.{length, getD}
 use borrow.Author.Tests.{eq-eqb, ne-eqb}
-use Rattle.collector.specs.Collector.{errorOf}
+use Rattle.replies.specs.Judged.{errorOf}
 use borrow.Author.Needs.{needs}
-use Rattle.collector.proofs.error.Statement.{statement}
-use Rattle.collector.proofs.error.Tie as tie
+use Rattle.replies.proofs.error.Statement.{statement}
+use Rattle.replies.proofs.error.Tie as tie
 
 returns : tie.Need-returns
 unfolding errorOf

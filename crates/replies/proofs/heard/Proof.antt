@@ -6,10 +6,10 @@ use lib.ListN.{length}
 use borrow.Author.Tests.{lt-ltb}
 use Rattle.modbus.specs.Frame.{addressOf, silence}
 use Rattle.modbus.proofs.Frames.{by-length}
-use Rattle.collector.proofs.Requests.{heard-by}
+use Rattle.replies.proofs.Requests.{heard-by}
 use borrow.Author.Needs.{needs}
-use Rattle.collector.proofs.heard.Statement.{statement}
-use Rattle.collector.proofs.heard.Tie as tie
+use Rattle.replies.proofs.heard.Statement.{statement}
+use Rattle.replies.proofs.heard.Tie as tie
 
 returns : tie.Need-returns
 returns c =

@@ -6,12 +6,12 @@ use Rattle.directory.specs.declared.Span.the-variants.{Items, Error}
 use Rattle.directory.specs.Views.{View, viewOf}
 use Rattle.modbus.specs.Read.{readIn}
 use Rattle.modbus.proofs.Judged.{legal-read}
-use Rattle.collector.specs.declared.Judgement.{Judgement}
-use Rattle.collector.specs.declared.Judgement.the-variants as judgement
-use Rattle.collector.specs.Collector.{heard, onItems, replyOf, judgedIn}
+use Rattle.replies.specs.declared.Judgement.{Judgement}
+use Rattle.replies.specs.declared.Judgement.the-variants as judgement
+use Rattle.replies.specs.Judged.{heard, onItems, replyOf, judgedIn}
 use borrow.Author.Needs.{needs}
-use Rattle.collector.proofs.judge.Statement.{statement}
-use Rattle.collector.proofs.judge.Tie as tie
+use Rattle.replies.proofs.judge.Statement.{statement}
+use Rattle.replies.proofs.judge.Tie as tie
 
 -- what the table is seen as
 abbrev view : tie.Start → View
