@@ -178,8 +178,8 @@ pub record Wholes : Type 0 where
   pub always : EveryView WholeAlways
   pub energies : EveryView WholeDemand3
 
--- STATEMENT: request 5, of the order of words: which one a meter has, what is read where both ends name the same and where they do not, that
--- there is an L that shows it, and examples. (What an order is to words is `Orders`; that each reply goes by the record's, at either
+-- STATEMENT: request 5, of the order of words: which one a meter has, what is read where both ends name the same and where they do not,
+-- that there is an L that shows it, and examples. (What an order is to words is `Orders`; that each reply goes by the record's, at either
 -- address, is `Obeys.reads`; demand 3 and the round trip are told the meter's own, `plateOf`.)
 pub record BuyersOrder : Type 0 where
   pub always : EveryView OrdersAlways
