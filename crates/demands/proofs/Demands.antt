@@ -4,7 +4,7 @@ use Rattle.crc.proofs.Laws.{crc-fits, intact-is-sealed, put-seals}
 use Rattle.words.proofs.Laws.{byte-sent, read-back, orders}
 use Rattle.words.proofs.Signs.{signed-back}
 use Rattle.lines.proofs.Texts.{text-back}
-use Rattle.ratio.proofs.Steps.{step-rows}
+use Rattle.ratio.proofs.Steps.{rows-meet, step-rows}
 use Rattle.counts.proofs.Joins.{join-split}
 use Rattle.directory.proofs.Rules.{directory-rules}
 use Rattle.own.proofs.Rules.{own-passes, tenant-view, three-tables, average-places, kinds-in-order}
@@ -61,6 +61,7 @@ ground = record {
   words = read-back;
   orders = orders;
   signed = signed-back;
+  rows = rows-meet;
   steps = step-rows;
   directory = directory-rules;
   own = own-passes;

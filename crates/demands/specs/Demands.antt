@@ -10,7 +10,7 @@ use Rattle.words.specs.Words.{ByteSent, ReadBack, Orders}
 use Rattle.words.specs.Signed.{SignedBack}
 use Rattle.lines.specs.Lines.{TextBack}
 use Rattle.ratio.specs.declared.Ratios.{Ratios}
-use Rattle.ratio.specs.Steps.{StepRows}
+use Rattle.ratio.specs.Steps.{RowsMeet, StepRows}
 use Rattle.counts.specs.declared.Count.{Count}
 use Rattle.counts.specs.Counting.{JoinSplit}
 use Rattle.directory.specs.declared.Item.{Item}
@@ -98,6 +98,7 @@ pub record Ground : Type 0 where
   pub words : ReadBack
   pub orders : Orders
   pub signed : SignedBack
+  pub rows : RowsMeet
   pub steps : StepRows
   pub directory : (dir : List Item) → T (tested dir) → DirectoryRules dir
   pub own : OwnPasses

@@ -3,11 +3,11 @@
 use mathlib.Core.Path.{_≡_, refl, sym, ap, _∙_}
 use mathlib.Core.List.{List, [], _∷_}
 use Prim.Native.Nat.{ℕ, zero, suc, _≤_}
-use mathlib.Core.Bool.{Bool, true, false, _&&_, cond, and-eq-true-iff, false≢true}
+use mathlib.Core.Bool.{Bool, true, false, _&&_, and-eq-true-iff, false≢true}
 use native.Mathlib.Omega.{arith}
-use borrow.Author.Tests.{ltb-true, ltb-false, leb-true, eqb-true, lt-ltb, le-ltb, le-leb}
+use borrow.Author.Tests.{ltb-true, ltb-false, leb-true, eqb-true, lt-ltb, le-leb}
 use lib.Dec.{ltb, leb, eqb, leb·suc-suc}
-use Rattle.ratio.specs.Steps.{Row, row, below, _to_, upFrom, steps, stepIn, meet, rowAt, inRow, rowStep, InOneRow, RowsMeet, stepOf, StepRows, Unchanged}
+use Rattle.ratio.specs.Steps.{Row, row, below, _to_, upFrom, steps, stepIn, meet, rowAt, inRow, rowStep, InOneRow, RowsMeet, stepOf, StepRows}
 
 -- ---- tables whose rows meet
 
@@ -77,40 +77,47 @@ own = refl
 pub rows-meet : RowsMeet
 rows-meet = record { own = own; one-row = λ rows ok t. one-row 0 rows ok t (omega arith) }
 
--- ---- the step of a row: the tests before its own fail, its own holds
+-- the step of T is that of any row that it is in
+of-row : (t k : ℕ) → inRow (rowAt steps k) t ≡ true → stepOf t ≡ rowStep (rowAt steps k)
+unfolding stepOf
+of-row t k h = let o = one-row 0 steps own t (omega arith) in o .step ∙ ap (λ (n : ℕ). rowStep (rowAt steps n)) (sym (o .no-other k h))
+
+-- both ends of a row from one T to another are in it
+between : (t first last : ℕ) → first ≤ t → t ≤ last → (leb first t && leb t last) ≡ true
+between t first last low high = and-eq-true-iff (leb first t) (leb t last) .1 (le-leb first t low, le-leb t last high)
 
 pub step-rows : StepRows
-unfolding stepOf
 step-rows = record {
-  row-10 = λ t top. simp (lt-ltb t 100 top);
-  row-100 = λ t from top. simp (le-ltb t 100 from, lt-ltb t 1000 top);
-  row-1000 = λ t from top. simp (le-ltb t 100 (omega (arith, from)), le-ltb t 1000 from, lt-ltb t 10000 top);
-  row-10000 = λ t from top. simp (le-ltb t 100 (omega (arith, from)), le-ltb t 1000 (omega (arith, from)), le-ltb t 10000 from, lt-ltb t 100000 top);
-  row-100000 = λ t from top. simp (le-ltb t 100 (omega (arith, from)), le-ltb t 1000 (omega (arith, from)), le-ltb t 10000 (omega (arith, from)), le-ltb t 100000 from, lt-ltb t 1000000 top);
-  row-1000000 = λ t from. simp (le-ltb t 100 (omega (arith, from)), le-ltb t 1000 (omega (arith, from)), le-ltb t 10000 (omega (arith, from)), le-ltb t 100000 (omega (arith, from)), le-ltb t 1000000 from);
+  row-10 = λ t top. of-row t 0 (lt-ltb t 100 top);
+  row-100 = λ t from top. of-row t 1 (between t 100 999 from (omega (arith, top)));
+  row-1000 = λ t from top. of-row t 2 (between t 1000 9999 from (omega (arith, top)));
+  row-10000 = λ t from top. of-row t 3 (between t 10000 99999 from (omega (arith, top)));
+  row-100000 = λ t from top. of-row t 4 (between t 100000 999999 from (omega (arith, top)));
+  row-1000000 = λ t from. of-row t 5 (le-leb 1000000 t from);
 }
 
--- ---- the bounds of all
+-- ---- the bounds of all steps
 
--- neither below the first step nor above the last
-record Within (step : ℕ) : Type 0 where
-  pub least : 10 ≤ step
-  pub most : step ≤ 1000000
+-- neither below the first nor above the last, by one computed test
+bounds : ℕ → Bool
+bounds step = leb 10 step && leb step 1000000
 
--- a row more
-more : (b : Bool) {m n : ℕ} → Within m → Within n → Within (cond b m n)
-more true m n = m
-more false m n = n
+bounded : List Row → Bool
+bounded [] = true
+bounded (row range step ∷ rows) = bounds step && bounded rows
 
-within : (t : ℕ) → Within (stepOf t)
-unfolding stepOf
+bounded-at : (rows : List Row) → bounded rows ≡ true → (t k : ℕ) → inRow (rowAt rows k) t ≡ true → bounds (rowStep (rowAt rows k)) ≡ true
+unfolding bounded
+bounded-at [] ok t k h = let z : ⊥ = omega (arith, ltb-true t 0 h) in absurd z
+bounded-at (row range step ∷ rows) ok t zero h = and-eq-true-iff (bounds step) _ .0 ok .0
+bounded-at (row range step ∷ rows) ok t (suc k) h = bounded-at rows (and-eq-true-iff (bounds step) _ .0 ok .1) t k h
+
+within : (t : ℕ) → (10 ≤ stepOf t) × (stepOf t ≤ 1000000)
+unfolding stepOf bounds bounded
 within t =
-    more (ltb t 100) (record { least = omega arith; most = omega arith })
-    (more (ltb t 1000) (record { least = omega arith; most = omega arith })
-    (more (ltb t 10000) (record { least = omega arith; most = omega arith })
-    (more (ltb t 100000) (record { least = omega arith; most = omega arith })
-    (more (ltb t 1000000) (record { least = omega arith; most = omega arith })
-    (record { least = omega arith; most = omega arith })))))
+    let o = one-row 0 steps own t (omega arith) in
+    let b = and-eq-true-iff (leb 10 (stepOf t)) _ .0 (ap bounds (o .step) ∙ bounded-at steps refl t (o .place) (o .its)) in
+    (leb-true 10 (stepOf t) (b .0), leb-true (stepOf t) 1000000 (b .1))
 
 -- what callers may know of the step
 pub record StepLaws : Type 0 where
@@ -118,18 +125,4 @@ pub record StepLaws : Type 0 where
   pub most : (t : ℕ) → stepOf t ≤ 1000000
 
 pub step-laws : StepLaws
-step-laws = record { least = λ t. within t .least; most = λ t. within t .most }
-
--- ---- the two rules are one
-
-old-row : (t k : ℕ) → inRow (rowAt steps k) t ≡ true → stepOf t ≡ rowStep (rowAt steps k)
-old-row t zero h = step-rows .row-10 t (ltb-true t 100 h)
-old-row t (suc zero) h = let b = and-eq-true-iff (leb 100 t) _ .0 h in step-rows .row-100 t (leb-true 100 t (b .0)) (omega (arith, leb-true t 999 (b .1)))
-old-row t (suc (suc zero)) h = let b = and-eq-true-iff (leb 1000 t) _ .0 h in step-rows .row-1000 t (leb-true 1000 t (b .0)) (omega (arith, leb-true t 9999 (b .1)))
-old-row t (suc (suc (suc zero))) h = let b = and-eq-true-iff (leb 10000 t) _ .0 h in step-rows .row-10000 t (leb-true 10000 t (b .0)) (omega (arith, leb-true t 99999 (b .1)))
-old-row t (suc (suc (suc (suc zero)))) h = let b = and-eq-true-iff (leb 100000 t) _ .0 h in step-rows .row-100000 t (leb-true 100000 t (b .0)) (omega (arith, leb-true t 999999 (b .1)))
-old-row t (suc (suc (suc (suc (suc zero))))) h = step-rows .row-1000000 t (leb-true 1000000 t h)
-old-row t (suc (suc (suc (suc (suc (suc k)))))) h = omega (arith, ltb-true t 0 h)
-
-pub unchanged : Unchanged
-unchanged = record { same = λ t. let o = one-row 0 steps own t (omega arith) in o .step ∙ sym (old-row t (o .place) (o .its)) }
+step-laws = record { least = λ t. within t .0; most = λ t. within t .1 }

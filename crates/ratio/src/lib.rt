@@ -70,21 +70,17 @@ pub fn power_limit(t: u32) -> u64
     }
 }
 
-// The Wh that one count of an energy register stands for: paper 01's table, its last row as request 2 mends it.
+// The Wh that one count of an energy register stands for: paper 01's table, its last row as request 2 mends it. T is in
+// tenths: the printed "10 ≤ KTA*KTV < 100" is the row from 100 to 999.
 pub fn energy_step(t: u32) -> u32
     ensures { λ r. ⌜ r ≡ stepOf t ⌝ }
 {
-    if t < 100 {
-        10
-    } else if t < 1_000 {
-        100
-    } else if t < 10_000 {
-        1_000
-    } else if t < 100_000 {
-        10_000
-    } else if t < 1_000_000 {
-        100_000
-    } else {
-        1_000_000
+    match t {
+        ..=99 => 10,
+        100..=999 => 100,
+        1_000..=9_999 => 1_000,
+        10_000..=99_999 => 10_000,
+        100_000..=999_999 => 100_000,
+        1_000_000.. => 1_000_000,
     }
 }
