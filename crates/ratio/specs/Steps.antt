@@ -49,7 +49,7 @@ stepOf = stepIn steps
 
 -- ---- what makes it total
 
--- rows meet without gap or overlap from a T on: each starts where the one before ends, and the last, no other, is open above
+-- rows meet without gap or overlap: the first starts at a given T, each other right after the one before, and the last alone is open above
 unfoldable pub meet : ℕ → List Row → Bool
 meet start [] = false
 meet start (row (below end) step ∷ rows) = eqb start 0 && meet end rows
