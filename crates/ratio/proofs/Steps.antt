@@ -53,6 +53,7 @@ either r rows t next ok same later = by (ltb t next) refl
     by true e = here r rows t (same ∙ e) (λ k h. omega (arith, ltb-true t next e, not-before next rows ok k t h))
     by false e = there r rows t (same ∙ e) (later (ltb-false t next e))
 
+-- THE LAW, of any table
 one-row : (start : ℕ) (rows : List Row) → meet start rows ≡ true → (t : ℕ) → start ≤ t → InOneRow rows t
 unfolding meet
 one-row start [] ok t h = absurd (false≢true ok)
@@ -70,6 +71,7 @@ one-row start (row (upFrom first) step ∷ another ∷ rows) ok t h = absurd (fa
 
 -- ---- paper 01's table
 
+-- THE TEST
 own : meet 0 steps ≡ true
 unfolding meet
 own = refl
