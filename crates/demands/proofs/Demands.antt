@@ -32,7 +32,7 @@ use Rattle.demands.proofs.Types.{types-kept}
 use Rattle.demands.proofs.NotEmpty.{not-empty, reads-always}
 use Rattle.demands.proofs.Demand3.{demand-3}
 use Rattle.demands.proofs.Wholes.{whole-always, whole-demand-3}
-use Rattle.demands.proofs.LastRows.{last-rows, last-ratios}
+use Rattle.demands.proofs.LastRows.{last-rows, last-ratios, first-rows}
 use Rattle.demands.proofs.Tenant.{second-is-named, at-second, tenant-asks, alters-nothing, answers-alike, unlike-but-alike, tenant-learns, counts-alone}
 use Rattle.demands.proofs.Fills.{averages-always}
 use Rattle.demands.proofs.Determined.{determined, numbered}
@@ -105,6 +105,7 @@ readings = record {
   typed = types-kept;
   always = reads-always;
   averages = averages-always;
+  first-rows = first-rows;
   last-rows = last-rows;
   last-ratios = last-ratios;
 }

@@ -14,7 +14,7 @@ use Rattle.directory.specs.Views.{View, passes}
 use Rattle.reading.specs.declared.Quantity.the-variants as read
 use Rattle.reading.specs.declared.Answer.the-variants.{Reading}
 use Rattle.demands.specs.Demand3.{History, sooner, exactAt}
-use Rattle.demands.specs.LastRows.{stepsAt, CountedIn, LastRows, LastRatios}
+use Rattle.demands.specs.LastRows.{stepsAt, CountedIn, LastRows, LastRatios, FirstRows}
 use Rattle.demands.proofs.Demand3.{whole, then, counts, wraps, most, ratios-ok}
 
 module _ (v : View) (good : T (passes v)) where
@@ -63,4 +63,12 @@ module _ (v : View) (good : T (passes v)) where
     t-1-000-000 = λ h e four same. last-rows .megawatt-hours h e four (omega (arith, ap tOf same));
     t-1-200-000 = λ h e four same. last-rows .megawatt-hours h e four (omega (arith, ap tOf same));
     t-99-980-001 = λ h e four same. last-rows .megawatt-hours h e four (omega (arith, ap tOf same));
+  }
+
+  pub first-rows : FirstRows v
+  first-rows = record {
+    ten-watt-hours = λ h e four from top. counted-in h e four 10 (step-rows .row-10 _ (omega (arith, top)));
+    hundred-watt-hours = λ h e four from top. counted-in h e four 100 (step-rows .row-100 _ from (omega (arith, top)));
+    kilowatt-hours = λ h e four from top. counted-in h e four 1000 (step-rows .row-1000 _ from (omega (arith, top)));
+    ten-kilowatt-hours = λ h e four from top. counted-in h e four 10000 (step-rows .row-10000 _ from (omega (arith, top)));
   }

@@ -46,7 +46,7 @@ use Rattle.demands.specs.RoundTrip.{Meets, WithData, RoundTrip}
 use Rattle.demands.specs.Histories.{TypesKept, AfterEvents, SetupIdleAlways}
 use Rattle.demands.specs.Polled.{EveryItemPolled}
 use Rattle.demands.specs.Demand3.{Demand3}
-use Rattle.demands.specs.LastRows.{LastRows, LastRatios}
+use Rattle.demands.specs.LastRows.{LastRows, LastRatios, FirstRows}
 use Rattle.demands.specs.Tenant.{SecondNamed, AtSecond, TenantAsks, TenantAltersNothing, AnswersAlike, TenantLearns, CountsAlone, UnlikeButAlike}
 use Rattle.demands.specs.Averages.{AveragesAlways}
 use Rattle.demands.specs.NotEmpty.{NotEmpty, ReadsAlways}
@@ -142,6 +142,7 @@ pub record Readings : Type 0 where
   pub typed : EveryView TypesKept
   pub always : EveryView ReadsAlways
   pub averages : EveryView AveragesAlways
+  pub first-rows : EveryView FirstRows
   pub last-rows : EveryView LastRows
   pub last-ratios : EveryView LastRatios
 

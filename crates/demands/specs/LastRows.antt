@@ -1,4 +1,4 @@
--- Paper 02, request 2, over histories and through the bytes: the steps in which registers count at the last rows of the table. All is
+-- Paper 02, requests 2 and 6, over histories and through the bytes: the steps in which registers count, row by row of the table. All is
 -- said of the exact energy, in numbers: the table itself is not looked at.
 use mathlib.Core.Path.{_≡_}
 use Prim.Native.Nat.{ℕ, _*_, _/_, _%_, _≤_, _<_}
@@ -52,3 +52,15 @@ module _ (v : View) where
     pub t-1-000-000 : CountsBy 1000 1000 1000000
     pub t-1-200-000 : CountsBy 1200 1000 1000000
     pub t-99-980-001 : CountsBy 9999 9999 1000000
+
+  -- every energy of every meter whose T is one from the first to the last is counted in steps of so many Wh
+  abbrev pub CountsFrom : ℕ → ℕ → ℕ → Type 0
+  CountsFrom first last step =
+      (h : History v) (e : ℕ) → e < 4 → first ≤ tOf (h .given .ratios) → tOf (h .given .ratios) ≤ last → CountedIn step h e
+
+  -- STATEMENT: the rows before these two, as they are printed
+  pub record FirstRows : Type 0 where
+    pub ten-watt-hours : CountsFrom 0 99 10
+    pub hundred-watt-hours : CountsFrom 100 999 100
+    pub kilowatt-hours : CountsFrom 1000 9999 1000
+    pub ten-kilowatt-hours : CountsFrom 10000 99999 10000
