@@ -68,7 +68,7 @@ module _ (v : View) (good : T (passes v)) where
   pub first-rows : FirstRows v
   first-rows = record {
     ten-watt-hours = λ h e four from top. counted-in h e four 10 (step-rows .row-10 _ (omega (arith, top)));
-    hundred-watt-hours = λ h e four from top. counted-in h e four 100 (step-rows .row-100 _ from (omega (arith, top)));
-    kilowatt-hours = λ h e four from top. counted-in h e four 1000 (step-rows .row-1000 _ from (omega (arith, top)));
-    ten-kilowatt-hours = λ h e four from top. counted-in h e four 10000 (step-rows .row-10000 _ from (omega (arith, top)));
+    hundred-watt-hours = λ h e four from top. counted-in h e four 100 (step-rows .row-100 _ (omega (arith, from)) (omega (arith, top)));
+    kilowatt-hours = λ h e four from top. counted-in h e four 1000 (step-rows .row-1000 _ (omega (arith, from)) (omega (arith, top)));
+    ten-kilowatt-hours = λ h e four from top. counted-in h e four 10000 (step-rows .row-10000 _ (omega (arith, from)) (omega (arith, top)));
   }
