@@ -58,7 +58,7 @@ module _ (v : View) where
   CountsFrom first last step =
       (h : History v) (e : ℕ) → e < 4 → first ≤ tOf (h .given .ratios) → tOf (h .given .ratios) ≤ last → CountedIn step h e
 
-  -- STATEMENT: the rows before these two, as they are printed
+  -- STATEMENT: the rows before the last two: in each, every energy is counted in the step that paper 01 prints there
   pub record FirstRows : Type 0 where
     pub ten-watt-hours : CountsFrom 0 99 10
     pub hundred-watt-hours : CountsFrom 100 999 100

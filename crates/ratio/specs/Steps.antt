@@ -37,7 +37,7 @@ steps =
     row (upFrom 1000000) 1000000 ∷
     []
 
--- the energy step of T in a table: that of the first row which has it
+-- the energy step of T in a table: that of the first row which has it; 0 if none does
 unfoldable pub stepIn : List Row → ℕ → ℕ
 stepIn [] t = 0
 stepIn (row range step ∷ rows) t = cond (has range t) step (stepIn rows t)
@@ -49,7 +49,8 @@ stepOf = stepIn steps
 
 -- ---- what makes it total
 
--- rows meet without gap or overlap: the first starts at a given T, each other right after the one before, and the last alone is open above
+-- rows meet without gap or overlap: the first starts at a given T, each other right after the one before; a row open below starts at 0, and
+-- the last row, no other, is open above
 unfoldable pub meet : ℕ → List Row → Bool
 meet start [] = false
 meet start (row (below end) step ∷ rows) = eqb start 0 && meet end rows
