@@ -1,4 +1,6 @@
 // Frames that programs send to a meter, and what it answers, as they print it.
+#![tactic(auto)]
+
 use board::{Meter, Reply};
 
 pub const REPLY_ROOM: usize = 256;

@@ -1,5 +1,7 @@
 // Average power and its peak (paper 02, request 1): the average of the last full window, the largest since new, and the window
 // that is open. Powers are in hundredths of W.
+#![tactic(auto)]
+
 ghost use Rattle.std.specs.Prelude.{◌≡◌, ◌<◌};
 ghost use Rattle.average.specs.Windows.{coded_minutes, window_seconds, no_window, no_average, joined_by, mean_of, larger, closed_by, after_second, recoded_by, minutes_of, average_ok};
 ghost use Rattle.average.specs.Fits.{Joins};
@@ -10,7 +12,7 @@ use signed::Signed;
 const A_MINUTE: u16 = 60;
 
 // The open window.
-#[derive(Drop)]
+#[derive(Clone, Copy)]
 pub struct Window {
     // How many seconds have joined it.
     pub seconds: u16,
@@ -47,7 +49,7 @@ impl Window {
     }
 }
 
-#[derive(Drop)]
+#[derive(Clone, Copy)]
 pub struct Average {
     pub window: Window,
     // The average of the last full window; 0 while there is none.

@@ -1,5 +1,7 @@
 // A meter on the bench: a line of standard input is a frame, and a line of standard output what the meter does with it
 // (paper 01, the program `bench`).
+#![tactic(auto)]
+
 ghost use Rattle.std.specs.Prelude.{◌≡◌, ◌≤◌, length, take};
 ghost use Rattle.transcript.specs.Transcript.{bench_text};
 

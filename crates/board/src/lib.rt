@@ -1,4 +1,6 @@
 // The board: a frame in, the reply out (paper 01, "What the meter does with a frame").
+#![tactic(auto)]
+
 mod reads;
 
 ghost use Rattle.std.specs.Prelude.{◌≡◌, true, false, not, ◌≤◌, length};
@@ -23,7 +25,7 @@ pub use refusal::Refusal;
 pub use words::Order;
 
 // What a frame is answered with.
-#[derive(Drop)]
+#[derive(Clone, Copy)]
 pub enum Reply {
     Silent,
     // The length of the reply, which stands at the start of the buffer.
@@ -32,7 +34,7 @@ pub enum Reply {
 }
 
 // A reply, and the meter after the frame.
-#[derive(Drop)]
+#[derive(Clone, Copy)]
 pub struct Handled {
     pub reply: Reply,
     pub meter: Meter,

@@ -1,6 +1,8 @@
 // One energy on its way from samples to the load on a feed: how a board and a collector call us. A new meter takes six minutes of
 // samples; then its +Ea is polled in each of its three places, read, joined, and held against the plain sum of the samples. Four
 // meters of large transformers follow, where the table of steps ends.
+#![tactic(auto)]
+
 mod tell;
 
 ghost use Rattle.std.specs.Prelude.{◌≡◌, ◌≤◌, length};
@@ -61,7 +63,7 @@ fn made(ratios: Ratios) -> Answered {
     })
 }
 
-#[derive(Drop)]
+#[derive(Clone, Copy)]
 struct Sampled {
     meter: Meter,
     accepted: u64,

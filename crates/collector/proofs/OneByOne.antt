@@ -223,9 +223,11 @@ module _ (v : View) (good : T (passes v)) (request reply : List ℕ) (plate : Na
 
   thirteenth : Refuses ValueImpossible → SomeImpossible v request reply plate values kinds
   thirteenth (row_13 h) = h
+  thirteenth (by_row w) = elim w [ ]
 
   fifteenth : Refuses RowShort → Short v request reply plate values kinds
   fifteenth (row_15 h) = h
+  fifteenth (by_row w) = elim w [ ]
 
   -- the numbers of the rows: 12 is not among them
   abbrev Among : ℕ → Type 0

@@ -343,9 +343,11 @@ module _ (v : View) (good : T (passes v)) where
 
     twelve : Refuses IndexPastItems → Past v request reply r index
     twelve (row_12 h) = h
+    twelve (by_row w) = elim w [ ]
 
     thirteenth : Refuses ValueImpossible → Impossible v request reply plate index
     thirteenth (row_13 h) = h
+    thirteenth (by_row w) = elim w [ ]
 
     -- the numbers of the rows
     abbrev Among : ℕ → Type 0

@@ -1,5 +1,7 @@
 // The collector: a request and the reply to it in, one reading out (paper 01, "Collector"), or all of them in two rows (`whole`). All
 // that it knows of the meter is its directory and the nameplate that it is told.
+#![tactic(auto)]
+
 ghost use Rattle.std.specs.Prelude.{◌≡◌, ◌+◌, ◌*◌, ◌≤◌, T, length};
 ghost use Rattle.directory.specs.Item.{items};
 ghost use Rattle.directory.specs.Order.{every, shaped, meant};
@@ -23,7 +25,7 @@ pub use whole::{Whole, read_whole};
 pub use words::Order;
 
 // What a collector is told of the meter that it asks: the transformer ratios, and which word of a long goes first.
-#[derive(Drop)]
+#[derive(Clone, Copy)]
 pub struct Nameplate {
     pub ratios: Ratios,
     pub order: Order,

@@ -19,7 +19,7 @@ use replies::Judgement;
 use words::Order;
 
 // What a whole reply comes to: how many items there are, the meter's error code, or a refusal.
-#[derive(Drop)]
+#[derive(Clone, Copy)]
 pub enum Whole {
     Items(usize),
     Error(ErrorCode),

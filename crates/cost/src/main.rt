@@ -1,4 +1,6 @@
 // Work to count instructions by. docs/COST.md has the figures, each the difference that a thousand more turns make.
+#![tactic(auto)]
+
 mod bytes;
 mod figures;
 mod frames;

@@ -1,5 +1,7 @@
 // What the registers show of an energy: count and wrap, Low and High (paper 01, "Steps of the registers"); and the energy joined
 // from them ("Collector"). Callers give T and never a step, so that a step always fits the ratios.
+#![tactic(auto)]
+
 ghost use Rattle.std.specs.Prelude.{◌≡◌, ◌≤◌};
 ghost use Rattle.counts.specs.Counting.{count_of, register_of, wrap_of, low_of, high_of, energy_of, join_of, join_halves_of};
 
@@ -7,7 +9,7 @@ use ratio::Ratios;
 use refusal::Refusal;
 
 // What an energy register shows, in steps. It is no energy until a step is applied.
-#[derive(Drop)]
+#[derive(Clone, Copy)]
 pub struct Count(pub u32);
 
 impl Count {
@@ -26,7 +28,7 @@ impl Count {
 }
 
 // Whole Wh, or for a reactive energy varh: what is said of Wh here is meant of varh too.
-#[derive(Drop)]
+#[derive(Clone, Copy)]
 pub struct WattHours(pub u64);
 
 impl WattHours {
@@ -83,7 +85,7 @@ fn stepped(count: u64, t: u32) -> WattHours
 }
 
 // What a join gives.
-#[derive(Drop)]
+#[derive(Clone, Copy)]
 pub enum Joined {
     Energy(WattHours),
     Refused(Refusal),

@@ -1,5 +1,7 @@
 // The CRC that ends every frame (paper 01, "What the meter does with a frame"), in the form that the paper names: over u16 with
 // shift, mask and exclusive-or.
+#![tactic(auto)]
+
 ghost use Rattle.std.specs.Prelude.{◌≡◌, ◌/◌, ◌%◌};
 ghost use Rattle.std.specs.Int.Bits.{bit_xor};
 ghost use Rattle.crc.specs.Crc.{shift, shifts, crc_from, crc_of, ends_in, intact, Put};

@@ -36,7 +36,7 @@ unfolding ascends
 ascending from [] t = done
 ascending from (it ∷ its) t =
     let u = right (leb from it.start) _ t in
-    next (leb→le _ _ (left (leb from it.start) _ t)) (ltb→lt _ _ (left (ltb 0 it.fills) _ u)) (ascending _ its (right (ltb 0 it.fills) _ u))
+    next (leb→le _ _ (left (leb from it.start) _ t)) (ltb→lt _ _ (left (ltb 0 it.fills) _ u)) (ascending (ends it) its (right (ltb 0 it.fills) _ u))
 
 -- each item starts at `from` or after
 pub all_from : {from : ℕ} {its : List Item} → Ascends from its → (k : ℕ) → k < length its → from ≤ (get_or its k none).start

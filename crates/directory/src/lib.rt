@@ -1,6 +1,8 @@
 // A directory of registers (paper 01, "The directory"): what an item is, how it is found by its address, and which run of items a
 // read asks for. It works on any flat table of items, of which only the first ones may be open to reads. Paper 01's own table is in
 // the crate `own`.
+#![tactic(auto)]
+
 pub mod quantity;
 
 ghost use Rattle.std.specs.Prelude.{◌≡◌, ◌+◌, ◌*◌, ◌≤◌, length, take, drop, get_or, T};
@@ -10,7 +12,7 @@ ghost use Rattle.directory.specs.Run.{find_in, run_in};
 
 use refusal::ErrorCode;
 
-#[derive(Drop)]
+#[derive(Clone, Copy)]
 pub struct Item {
     // Its first address.
     pub start: u16,
@@ -38,7 +40,7 @@ impl Item {
 pub const NUMBERS_PER_ITEM: usize = 4;
 
 // How much of a table may be read. It is handed on with the table.
-#[derive(Drop)]
+#[derive(Clone, Copy)]
 pub struct Reach {
     // How many of the table's items, from its first on.
     pub items: usize,
@@ -47,14 +49,14 @@ pub struct Reach {
 }
 
 // The index of an item, or that there is none.
-#[derive(Drop)]
+#[derive(Clone, Copy)]
 pub enum Found {
     At(usize),
     Nothing,
 }
 
 // The items that a read asks for, `count` of them from the index `first` on, or what is wrong with the read.
-#[derive(Drop)]
+#[derive(Clone, Copy)]
 pub enum Span {
     Items { first: usize, count: usize },
     Error(ErrorCode),

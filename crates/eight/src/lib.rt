@@ -4,6 +4,8 @@
 // Eight bytes take 64 right shifts. Here a few shifts and exclusive-ors of u64 do the work of all 64, at a third of the cost over
 // a whole frame. This rests on polynomials whose coefficients are bits. The CRC's polynomial is (t + 1)(t^15 + t + 1), so two
 // things fix a CRC: its parity, and its remainder by t^15 + t + 1. For that remainder t^30 is t^2 + 1, and t^60 is t^4 + 1.
+#![tactic(auto)]
+
 ghost use Rattle.std.specs.Prelude.{◌≡◌, ◌+◌, ◌*◌, ◌/◌, ◌≤◌, length, take, drop};
 ghost use Rattle.crc.specs.Crc.{crc_from, crc_of, intact};
 ghost use Rattle.eight.specs.AtOnce.{run, folded, spread, narrowed, parity, settled, number};

@@ -7,8 +7,8 @@ use native.Mathlib.Omega.{arith}
 use lib.Dec.{eqb}
 use lib.ListN.{length, get_or, drop, drop_of_length-le}
 use lib.Seq.{drop-cons, drop-drop}
-use Rattle.hex.specs.Hex.{digit_of, pair_ok, byte_of}
-use Rattle.hex.proofs.Pairs.{digits}
+use Rattle.digits.specs.Hex.{digit_of, pair_ok, byte_of}
+use Rattle.digits.proofs.Pairs.{digits}
 use Rattle.lines.specs.Lines.{pairs_ok, bytes_of, line_ok}
 
 pub nothing : (l : List ℕ) → length l ≡ 0 → l ≡ []

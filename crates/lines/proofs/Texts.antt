@@ -5,7 +5,7 @@ use mathlib.Core.List.{List, [], ◌∷◌}
 use Prim.Native.Nat.{ℕ, suc, ◌-◌, ◌*◌, ◌<◌}
 use native.Mathlib.Omega.{arith}
 use lib.ListN.{length, get_or}
-use Rattle.hex.proofs.Pairs.{pair_good, pair_same}
+use Rattle.digits.proofs.Pairs.{pair_good, pair_same}
 use Rattle.lines.specs.Lines.{pairs_ok, bytes_of, line_ok, text_of, TextBack}
 use Rattle.lines.proofs.Laws.{pairs_line}
 

@@ -2,7 +2,7 @@
 -- capitals.
 use Rattle.std.specs.Prelude.{◌≡◌, ℕ, ◌+◌, ◌*◌, ◌<◌, min, Bool, true, false, ◌&&◌, cond, List, [], ◌∷◌, ◌++◌, leb, eqb, length, get_or, take}
 use Rattle.std.proofs.lemmas.List.Edits.{sets}
-use Rattle.hex.specs.Hex.{pair_ok, byte_of, pair_of}
+use Rattle.digits.specs.Hex.{pair_ok, byte_of, pair_of}
 use Rattle.lines.specs.declared.Line.{Line}
 use Rattle.lines.specs.declared.Line.TheVariants.{Frame, Bad}
 

@@ -1,4 +1,6 @@
 // One frame a line, as hex pairs with single spaces between them (paper 01, the program `bench`).
+#![tactic(auto)]
+
 ghost use Rattle.std.specs.Prelude.{◌≡◌, ◌+◌, ◌*◌, ◌≤◌, min, true, length, take, drop};
 ghost use Rattle.std.proofs.lemmas.List.Edits.{sets};
 ghost use Rattle.lines.specs.Lines.{line_length, bytes_of, line_ok, FrameRead, text_of, TextPut};
@@ -8,7 +10,7 @@ pub const LINE_FEED: u8 = 0x0A;
 const SPACE: u8 = 0x20;
 
 // What a line holds: a frame, with the number of its bytes that were put into the buffer, or no frame.
-#[derive(Drop)]
+#[derive(Clone, Copy)]
 pub enum Line {
     Frame(usize),
     Bad,
@@ -49,7 +51,7 @@ fn line_ok(line: &[u8]) -> bool
     }
     let mut i = 0;
     while 2 < n - i {
-        if hex::pair_ok(line[i], line[i + 1]) & (line[i + 2] == SPACE) {
+        if digits::pair_ok(line[i], line[i + 1]) & (line[i + 2] == SPACE) {
             i += 3;
         } else {
             return false;
@@ -58,7 +60,7 @@ fn line_ok(line: &[u8]) -> bool
     if n - i != 2 {
         return false;
     }
-    hex::pair_ok(line[i], line[i + 1])
+    digits::pair_ok(line[i], line[i + 1])
 }
 
 // A pair and its space are three characters. Answers how many bytes it put.
@@ -70,7 +72,7 @@ fn put_bytes(line: &[u8], buffer: &mut [u8]) -> usize
     let n = least((line.len() + 1) / 3, buffer.len());
     let mut i = 0;
     while i < n {
-        buffer[i] = hex::byte_of(line[3 * i], line[3 * i + 1]);
+        buffer[i] = digits::byte_of(line[3 * i], line[3 * i + 1]);
         i += 1;
     }
     n
@@ -106,9 +108,9 @@ fn put_text(bytes: &[u8], buffer: &mut [u8])
     let last = bytes.len() - 1;
     let mut i = 0;
     while i < last {
-        hex::put_digits(buffer, 3 * i, bytes[i]);
+        digits::put_digits(buffer, 3 * i, bytes[i]);
         buffer[3 * i + 2] = SPACE;
         i += 1;
     }
-    hex::put_digits(buffer, 3 * i, bytes[i]);
+    digits::put_digits(buffer, 3 * i, bytes[i]);
 }

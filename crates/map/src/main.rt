@@ -1,4 +1,6 @@
 // The register map for people: a Markdown document of paper 01's own directory, printed from its table. It is docs/REGISTERS.md.
+#![tactic(auto)]
+
 mod names;
 mod units;
 

@@ -9,7 +9,7 @@ use crate::Meter;
 use counts::WattHours;
 use signed::Signed;
 
-#[derive(Drop)]
+#[derive(Clone, Copy)]
 pub struct Energy {
     // Whole Wh or varh.
     pub wh: WattHours,
@@ -38,7 +38,7 @@ impl Energy {
 }
 
 // The energies of the two directions: +Ea and -Ea, or +Er and -Er.
-#[derive(Drop)]
+#[derive(Clone, Copy)]
 pub struct Energies {
     pub positive: Energy,
     pub negative: Energy,
@@ -71,7 +71,7 @@ impl Energies {
 }
 
 // All that a meter counts: the active and the reactive energies.
-#[derive(Drop)]
+#[derive(Clone, Copy)]
 pub struct Counters {
     pub active: Energies,
     pub reactive: Energies,

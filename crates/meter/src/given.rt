@@ -7,7 +7,7 @@ use crate::Meter;
 use ratio::Ratios;
 use words::Order;
 
-#[derive(Drop)]
+#[derive(Clone, Copy)]
 pub struct Given {
     // Its own address, 1 to 255.
     pub address: u8,

@@ -3,7 +3,7 @@
 ghost use Rattle.std.specs.Prelude.{◌≡◌};
 ghost use Rattle.meter.specs.Groups.{setup_ok, no_setup, code_of};
 
-#[derive(Drop)]
+#[derive(Clone, Copy)]
 pub struct Setup {
     // The words from 0x2000 on.
     pub standard: [u16; 16],

@@ -1,4 +1,6 @@
 // The meter: its record, a new one, and what a sample makes of it (paper 01, "The meter's record"; its averages, paper 02, request 1).
+#![tactic(auto)]
+
 pub mod energies;
 pub mod given;
 pub mod groups;
@@ -20,7 +22,7 @@ use samples::Sample;
 use words::Order;
 
 // A meter's record, in groups. Each group tests its own limits and says what it is in a new meter.
-#[derive(Drop)]
+#[derive(Clone, Copy)]
 pub struct Meter {
     pub given: Given,
     pub counters: Counters,
@@ -30,14 +32,14 @@ pub struct Meter {
 }
 
 // The answer to a new meter or to a sample.
-#[derive(Drop)]
+#[derive(Clone, Copy)]
 pub enum Answer {
     Accepted,
     Refused(Refusal),
 }
 
 // An answer, and the meter after the call.
-#[derive(Drop)]
+#[derive(Clone, Copy)]
 pub struct Answered {
     pub answer: Answer,
     pub meter: Meter,

@@ -7,7 +7,7 @@ use crate::Meter;
 use signed::Signed;
 
 // P or Q of each phase, in hundredths of W or var.
-#[derive(Drop)]
+#[derive(Clone, Copy)]
 pub struct Powers {
     pub l1: i64,
     pub l2: i64,
@@ -55,7 +55,7 @@ impl Powers {
 }
 
 // A power factor, in thousandths.
-#[derive(Drop)]
+#[derive(Clone, Copy)]
 pub struct Factor(pub i16);
 
 impl Factor {
@@ -67,7 +67,7 @@ impl Factor {
     }
 }
 
-#[derive(Drop)]
+#[derive(Clone, Copy)]
 pub struct Sample {
     // In mV: L1, L2, L3, then chained L1-L2, L2-L3, L3-L1, in the order of the quantities of the directory.
     pub voltages: [u32; 6],

@@ -1,5 +1,7 @@
 // What a frame is (paper 01, "What the meter does with a frame"): where its fields stand, which frames a meter keeps silent on,
 // how a read is judged, the shape of a write, and the replies that carry no data.
+#![tactic(auto)]
+
 ghost use Rattle.std.specs.Prelude.{◌≡◌, ◌+◌, ◌*◌, ◌≤◌, ◌<◌, length};
 ghost use Rattle.std.proofs.lemmas.List.Edits.{sets};
 ghost use Rattle.directory.specs.Views.{view_of, Lent};

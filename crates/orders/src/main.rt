@@ -1,6 +1,8 @@
 // Which word of a long goes first (paper 02, request 5), through a board and a collector: what meters of either order send at both of
 // their addresses, and what a collector makes of it that is told the same order or the other. What each example comes to is printed,
 // and held to the file `stdout`.
+#![tactic(auto)]
+
 mod frames;
 mod items;
 mod meters;

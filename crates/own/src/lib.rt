@@ -1,5 +1,7 @@
 // Paper 01's own directory (paper 01, "The directory"), with request 1's six items: its items as one flat constant table, how much
 // of it may be read, and which run of its items a read asks for.
+#![tactic(auto)]
+
 pub mod table;
 
 ghost use Rattle.std.specs.Prelude.{◌≡◌};

@@ -1,11 +1,13 @@
 // Transformer ratios, and what follows from them: the power unit and limit, and the step in which a register counts an
 // energy (paper 01, "Steps of the registers"). All but the limits of the ratios follows from their product T alone.
+#![tactic(auto)]
+
 ghost use Rattle.std.specs.Prelude.{◌≡◌};
 ghost use Rattle.ratio.specs.Ratios.{ratios_ok, t_of};
 ghost use Rattle.ratio.specs.Powers.{power_unit, power_register, power_limit};
 ghost use Rattle.ratio.specs.Steps.{step_of};
 
-#[derive(Drop)]
+#[derive(Clone, Copy)]
 pub struct Ratios {
     // KTA, the current transformer, a whole number.
     pub kta: u16,

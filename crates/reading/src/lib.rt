@@ -1,5 +1,7 @@
 // What the words of an item read as (paper 01, "Collector"): a quantity in its unit, or refusal 13 for a value that no
 // meter shows. The kind of the item's quantity decides.
+#![tactic(auto)]
+
 ghost use Rattle.std.specs.Prelude.{◌≡◌, ◌-◌, ◌/◌, ◌^◌, ◌<◌, ◌≤◌, true, false, not, cond, leb, ltb};
 ghost use Rattle.refusal.specs.declared.Refusal.TheVariants.{ValueImpossible};
 ghost use Rattle.words.specs.Signed.{magnitude_in};
@@ -19,7 +21,7 @@ use refusal::{ErrorCode, Refusal};
 use signed::Signed;
 
 // A reading. The order is that of paper 01's list of readings.
-#[derive(Drop)]
+#[derive(Clone, Copy)]
 pub enum Quantity {
     // In mV.
     Voltage(u32),
@@ -110,7 +112,7 @@ impl Quantity {
 }
 
 // What a collector makes of a reply: a reading, the meter's error code, or a refusal.
-#[derive(Drop)]
+#[derive(Clone, Copy)]
 pub enum Answer {
     Reading(Quantity),
     Error(ErrorCode),

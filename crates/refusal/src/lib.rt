@@ -1,10 +1,12 @@
 // Why a call is refused, and the error codes that a meter answers with (paper 01, "Refusal numbers" and "What the
 // meter does with a frame"). Every call that refuses anything gives its reason by one of these names.
+#![tactic(auto)]
+
 ghost use Rattle.std.specs.Prelude.{◌≡◌};
 ghost use Rattle.refusal.specs.Numbers.{refusal_number, error_number};
 
 // The rows of the refusal table, in its order, then those of paper 02.
-#[derive(Drop)]
+#[derive(Clone, Copy)]
 pub enum Refusal {
     MeterOutOfLimits,
     BufferShort,
@@ -49,7 +51,7 @@ impl Refusal {
 }
 
 // What a meter finds wrong with a request: its function, the address it starts at, or its data.
-#[derive(Drop)]
+#[derive(Clone, Copy)]
 pub enum ErrorCode {
     Function,
     Address,

@@ -1,5 +1,7 @@
 // What the registers show (paper 01, "Steps of the registers" and "The directory"): from a meter and a quantity to the value
 // that is sent for it. A match on the kind comes first, then one on which quantity of the kind. A number that is no quantity shows 0.
+#![tactic(auto)]
+
 ghost use Rattle.std.specs.Prelude.{◌≡◌, true, [], ◌∷◌, ◌++◌, ◌≤◌, get_or};
 ghost use Rattle.signed.specs.Signs.{sign_word};
 ghost use Rattle.meter.specs.Samples.{factor_of};

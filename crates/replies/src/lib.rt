@@ -1,4 +1,6 @@
 // What a request and its reply come to before any item is looked at (paper 01, "Collector"): it is judged once, for however many items.
+#![tactic(auto)]
+
 ghost use Rattle.std.specs.Prelude.{◌≡◌, ◌≤◌, length};
 ghost use Rattle.directory.specs.Views.{view_of, Lent};
 ghost use Rattle.replies.specs.Judged.{heard, error_of, reply_of, judged_in};
@@ -14,7 +16,7 @@ const READ_ERROR: u8 = modbus::READ_HOLDING_REGISTERS + modbus::ERROR_FLAG;
 const REPLY_LEAST: usize = 5;
 
 // What they come to.
-#[derive(Drop)]
+#[derive(Clone, Copy)]
 pub enum Judgement {
     // Data that fits: the first of the items asked for, by its index in the directory, and how many they are.
     Items { first: usize, count: usize },

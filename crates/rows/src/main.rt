@@ -1,5 +1,7 @@
 // Whole replies read in one call, run: what lies in the caller's two rows afterwards, also where nothing may be written. All cells are
 // printed, and held to the file `stdout`.
+#![tactic(auto)]
+
 mod refusals;
 mod replies;
 mod rows;

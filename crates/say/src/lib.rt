@@ -1,5 +1,7 @@
 // What the programs print with: text, numbers and names on standard output. It is no product code, and no contract can say what is
 // written.
+#![tactic(auto)]
+
 ghost use Rattle.std.specs.Prelude.{◌≤◌, length};
 
 use libc::STDOUT_FILENO;

@@ -1,4 +1,6 @@
 // The setup words, and the values that each may hold (paper 01, "The directory": setup ranges).
+#![tactic(auto)]
+
 ghost use Rattle.std.specs.Prelude.{◌≡◌};
 ghost use Rattle.setup.specs.Ranges.{word_ok, group_ok};
 

@@ -1,9 +1,11 @@
 // A signed number as a magnitude and whether it is negative. All other crates use this form; only the 3-phase sum adds
 // signed numbers.
+#![tactic(auto)]
+
 ghost use Rattle.std.specs.Prelude.{◌≡◌};
 ghost use Rattle.signed.specs.Signs.{signed_of, above_of, below_of};
 
-#[derive(Drop)]
+#[derive(Clone, Copy)]
 pub struct Signed {
     pub negative: bool,
     // In the unit of the number.

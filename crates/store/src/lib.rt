@@ -1,4 +1,6 @@
 // What a write stores (paper 01, "What the meter does with a frame", step 5).
+#![tactic(auto)]
+
 ghost use Rattle.std.specs.Prelude.{◌≡◌, true, false};
 ghost use Rattle.modbus.specs.Frame.{write_shaped};
 ghost use Rattle.meter.specs.Groups.{with_standard, with_output};
@@ -9,14 +11,14 @@ use meter::Meter;
 use refusal::ErrorCode;
 
 // How a write is judged.
-#[derive(Drop)]
+#[derive(Clone, Copy)]
 pub enum Verdict {
     Good,
     Wrong(ErrorCode),
 }
 
 // The verdict, and the meter after the write.
-#[derive(Drop)]
+#[derive(Clone, Copy)]
 pub struct Written {
     pub verdict: Verdict,
     pub meter: Meter,

@@ -1,5 +1,7 @@
 // A meter's second address (paper 02, request 3), through a board and a collector: what a tenant reads by it, and what is hidden from
 // it. What each example comes to is printed, and held to the file `stdout`.
+#![tactic(auto)]
+
 mod frames;
 mod meters;
 

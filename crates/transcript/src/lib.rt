@@ -1,4 +1,6 @@
 // What the program `bench` writes, of the whole of its input (paper 01, the program `bench`).
+#![tactic(auto)]
+
 ghost use Rattle.std.specs.Prelude.{◌≡◌, ℕ, ◌+◌, ◌*◌, ◌≤◌, ◌<◌, length};
 ghost use Rattle.std.proofs.lemmas.List.Edits.{sets};
 ghost use Rattle.board.specs.declared.Reply.TheVariants.{Sent};
@@ -21,7 +23,7 @@ const REPLY_ROOM: usize = 256;
 const ROOM_A_BYTE: usize = 32;
 
 // The meter after a line, and where the answer to the line ends in the text.
-#[derive(Drop)]
+#[derive(Clone, Copy)]
 struct Told {
     meter: Meter,
     end: usize,

@@ -1,4 +1,6 @@
 // The documents' examples, run: what each comes to is printed, and held to the file `stdout`.
+#![tactic(auto)]
+
 mod frames;
 mod meters;
 

@@ -1,5 +1,7 @@
 // Average power, its peak and the minutes of the open window (paper 02, request 1), through a board and a collector: what each
 // example comes to is printed, and held to the file `stdout`.
+#![tactic(auto)]
+
 mod codes;
 mod figures;
 mod frames;

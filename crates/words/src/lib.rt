@@ -1,12 +1,14 @@
 // Words on the line: two bytes, upper byte first; a long is two words, in either order (paper 01, "The directory"; paper 02, request 5).
 // The callers see to it that place and width fit the buffer, so nothing is tested again here.
+#![tactic(auto)]
+
 ghost use Rattle.std.specs.Prelude.{◌≡◌, ◌+◌, ◌-◌, ◌*◌, ◌%◌, ◌≤◌, ◌<◌, cond, length, ◌++◌};
 ghost use Rattle.std.proofs.lemmas.List.Edits.{sets};
 ghost use Rattle.words.specs.Words.{word, sent, word_at, value_at};
 ghost use Rattle.words.specs.Signed.{twos};
 
 // Which word of a long goes first.
-#[derive(Drop)]
+#[derive(Clone, Copy)]
 pub enum Order {
     UpperFirst,
     LowerFirst,

@@ -1,0 +1,14 @@
+-- The largest count times the largest step fits 64 bits.
+use Rattle.std.proofs.Common.{refl, arith}
+use native.Mathlib.Nat.{mul-le-mul}
+use Rattle.ratio.proofs.Steps.{step_laws}
+use borrow.Author.Rules.{rules}
+use Rattle.counts.proofs.stepped.Goals as goal
+
+pub overflow_mul-result : goal.overflow_mul-result
+overflow_mul-result c =
+    rw c.energy_step.ensures
+    (record { fits = omega (arith, mul-le-mul c.requires (step_laws.most c.args.t)) })
+
+pub returns : goal.returns
+returns c = rw c.energy_step.ensures refl

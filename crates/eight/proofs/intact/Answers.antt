@@ -1,0 +1,15 @@
+-- `intact` is the written test, with the CRC that `of` gives.
+use Rattle.std.proofs.Common.{sym, ◌∙◌, arith}
+use lib.Seq.{length-take-le}
+use borrow.Author.Rules.{rules}
+use Rattle.crc.proofs.Laws.{short_broken, ends_intact}
+use Rattle.eight.proofs.intact.Goals as goal
+
+pub returns-then-frame-lt2 : goal.returns-then-frame-lt2
+returns-then-frame-lt2 c = short_broken _ c.if-frame-lt2.true
+
+pub slice_bounds-of-end : goal.slice_bounds-of-end
+slice_bounds-of-end c = sym (length-take-le _ _ (omega arith))
+
+pub returns : goal.returns
+returns c = c.ends_in.ensures ∙ ends_intact _ c.of.result c.of.ensures

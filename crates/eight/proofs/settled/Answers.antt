@@ -1,0 +1,15 @@
+-- `settled` is what its parts say, put together.
+use Rattle.std.proofs.Common.{ap, ◌∙◌, ℕ, ◌%◌, ◌^◌}
+use lib.Bits.{bit_xor}
+use borrow.Author.Rules.{rules}
+use Rattle.eight.specs.AtOnce.{run, narrowed, parity, mended, settled}
+use Rattle.eight.proofs.settled.Goals as goal
+
+pub returns : goal.returns
+unfolding settled
+returns c =
+    let r = c.narrowed-r.result in
+    let p = c.args.p in
+    ap (λ (odd : ℕ). bit_xor r (run mended odd) % 2 ^ 16) c.parity-odd.ensures
+    ∙ ap (λ (n : ℕ). bit_xor n (run mended (run parity (bit_xor p n))) % 2 ^ 16)
+    (c.narrowed-r.ensures ∙ ap (run narrowed) c.folded.ensures)

@@ -1,0 +1,45 @@
+-- What is left of the line is still good, and its bytes, stored from the next place on, make the buffer that is due.
+use lib.ListN.{length, get_or, set, take, drop, length-take, length-drop, length-set}
+use Rattle.std.proofs.Common.{◌≡◌, refl, sym, ◌∙◌, true, List, [], ℕ, suc, ◌+◌, ◌-◌, ◌*◌, ◌/◌, ◌≤◌, ◌<◌, min, add-one, arith}
+use native.Mathlib.Nat.{sub-zero}
+use lib.Seq.{sets}
+use Rattle.digits.specs.Hex.{byte_of}
+use Rattle.lines.specs.Lines.{bytes_of, line_ok}
+use Rattle.lines.proofs.Laws.{nothing, bytes_length, turn_ok, turn_bytes}
+use Rattle.lines.proofs.put_bytes.Goals as goal
+
+turn : (line buffer : List ℕ) (i room r : ℕ) → 3 * i + 2 ≤ length line → i < room → r ≡ byte_of (get_or line (3 * i) 0) (get_or line (3 * i + 1) 0) → sets (set buffer i r) (i + 1) (take (room - (i + 1)) (bytes_of (drop (3 * (i + 1)) line))) ≡ sets buffer i (take (room - i) (bytes_of (drop (3 * i) line)))
+turn line buffer i room r h inside e =
+    let one : room - i ≡ suc (room - (i + 1)) = omega arith in
+    let next : i + 1 ≡ suc i = add-one i in
+    rw (one, turn_bytes line i h, ← e, next)
+
+done : (line buffer : List ℕ) (i room : ℕ) → min ((length line + 1) / 3) room ≤ i → sets buffer i (take (room - i) (bytes_of (drop (3 * i) line))) ≡ buffer
+done line buffer i room h =
+    let left = take (room - i) (bytes_of (drop (3 * i) line)) in
+    let none : left ≡ [] = nothing left (simp (length-take, bytes_length, length-drop) (omega arith)) in
+    rw none
+
+pub loop-i-init : goal.loop-i-init
+loop-i-init c = (omega arith, refl, c.requires, rw sub-zero)
+
+pub byte_of-requires : goal.byte_of-requires
+byte_of-requires c =
+    let a = c in
+    (turn_ok a.args.line.now a.loop-i.i (omega arith) a.loop-i.invariant.2).0
+
+pub loop-i-preserved : goal.loop-i-preserved
+loop-i-preserved c =
+    let a = c in
+    let s = a in
+    let line = s.args.line.now in
+    (omega arith, simp length-set a.loop-i.invariant.1, (turn_ok line a.loop-i.i (omega arith) a.loop-i.invariant.2).1, turn line a.loop-i.buffer a.loop-i.i (length s.args.buffer.now) c.byte_of.result (omega arith) (omega arith) c.byte_of.ensures ∙ a.loop-i.invariant.3)
+
+pub shape_of-buffer : goal.shape_of-buffer
+shape_of-buffer c = c.loop-i.invariant.1
+
+pub returns : goal.returns
+returns c =
+    let a = c in
+    let s = a in
+    (omega (arith, bytes_length s.args.line.now), sym (done s.args.line.now a.loop-i.buffer a.loop-i.i (length s.args.buffer.now) (omega arith)) ∙ a.loop-i.invariant.3)

@@ -1,0 +1,15 @@
+-- Two words stored one behind the other are one run of stores.
+use Rattle.std.proofs.Common.{ap, ◌∙◌, List, ℕ, ◌+◌}
+use lib.Seq.{sets}
+use Rattle.words.specs.Words.{word}
+use Rattle.words.proofs.Laws.{sets_append}
+use borrow.Author.Rules.{rules}
+use Rattle.words.proofs.put_two.Goals as goal
+
+pub returns : goal.returns
+returns c =
+    let second = c in
+    let first = second in
+    let a = first.args in
+    rw sets_append
+    (second.put_word-2.ensures ∙ ap (λ (l : List ℕ). sets l (a.at + 2) (word a.second)) first.put_word.ensures)

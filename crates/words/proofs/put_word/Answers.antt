@@ -1,0 +1,11 @@
+-- The second store is at the place after the first, which the definition of a run of stores calls its successor.
+use Rattle.std.proofs.Common.{add-one, arith, refl}
+use lib.ListN.{length-set}
+use borrow.Author.Rules.{rules}
+use Rattle.words.proofs.put_word.Goals as goal
+
+pub bounds-buffer-at-2 : goal.bounds-buffer-at-2
+bounds-buffer-at-2 c = simp length-set (omega arith)
+
+pub returns : goal.returns
+returns c = rw add-one refl

@@ -1,0 +1,8 @@
+-- The definition at its width.
+use Rattle.words.specs.Signed.{twos}
+use borrow.Author.Rules.{rules}
+use Rattle.words.proofs.twos_word.Goals as goal
+
+pub returns : goal.returns
+unfolding twos
+returns c = c.complement.ensures.0

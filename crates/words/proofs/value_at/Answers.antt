@@ -1,0 +1,25 @@
+-- By the width: one word, or the upper one times 65,536 and the lower, whichever is first.
+use Rattle.std.proofs.Common.{◌≡◌, refl, arith}
+use Rattle.words.specs.declared.Order.TheVariants.{UpperFirst, LowerFirst}
+use Rattle.words.proofs.Laws.{value_word, value_upper, value_lower}
+use borrow.Author.Rules.{rules}
+use Rattle.words.proofs.value_at.Goals as goal
+
+pub returns-then-words-eq1 : goal.returns-then-words-eq1
+returns-then-words-eq1 c =
+    let one : c.args.words ≡ 1 = c.if-words-eq1.true in
+    rw (one, value_word) c.word_at-first.ensures
+
+pub returns-in-UpperFirst : goal.returns-in-UpperFirst
+returns-in-UpperFirst c =
+    let s = c in
+    let two : s.args.words ≡ 2 = omega arith in
+    let upper : s.args.order ≡ UpperFirst = c.in-UpperFirst.is in
+    rw (two, upper, value_upper, c.word_at-first.ensures, c.word_at-second.ensures) refl
+
+pub returns-in-LowerFirst : goal.returns-in-LowerFirst
+returns-in-LowerFirst c =
+    let s = c in
+    let two : s.args.words ≡ 2 = omega arith in
+    let lower : s.args.order ≡ LowerFirst = c.in-LowerFirst.is in
+    rw (two, lower, value_lower, c.word_at-first.ensures, c.word_at-second.ensures) refl
