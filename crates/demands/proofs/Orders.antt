@@ -107,7 +107,7 @@ module _ (v : View) (good : T (passes v)) where
         back before after =
             (λ i. value_at o (w i) (before ++ sent m.given.order (w i) x ++ after) (length before))
             ∙ ap (λ (l : List ℕ). value_at o 1 (before ++ l ++ after) (length before)) (orders.one_sent m.given.order o x)
-            ∙ read_back.between o 1 x before after (subst (λ (n : ℕ). x < 65536 ^ n) w (fits_words v good m held.within held.given p held.typed))
+            ∙ read_back_lem.between o 1 x before after (subst (λ (n : ℕ). x < 65536 ^ n) w (fits_words v good m held.within held.given p held.typed))
 
     -- ---- an L
 

@@ -216,7 +216,7 @@ module _ (v : View) (good : T (passes v)) where
           ∙ reads before (after ++ crc)
 
       value_back : Shows m it.quantity → value_in v order a reply index ≡ shown_of m it.quantity
-      value_back fit = value_as order (shown_of m it.quantity) (λ before after. read_back.between order it.words (shown_of m it.quantity) before after (fitting_words fit))
+      value_back fit = value_as order (shown_of m it.quantity) (λ before after. read_back_lem.between order it.words (shown_of m it.quantity) before after (fitting_words fit))
 
       -- ---- and what the collector makes of them, through the bytes of the reply, told the ratios and some order
 

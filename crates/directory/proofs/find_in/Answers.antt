@@ -6,41 +6,33 @@ use Rattle.directory.proofs.Order.{Ascends, ruled_ascends}
 use Rattle.directory.proofs.Views.{view_length, view_item}
 use Rattle.directory.proofs.Finds.{found_here, Window, window_whole, window_up, window_down, window_empty}
 use Rattle.directory.proofs.find_in.Goals as goal
-use Rattle.directory.proofs.find_in.Goals.{After-item_at-it, Start}
-
--- the view that is searched, and the item in the middle
-ascends : (s : Start) → Ascends 0 (take s.args.seen (items s.args.table.now))
-ascends s = ruled_ascends (take s.args.seen (items s.args.table.now)) s.requires.1
-
-size : (s : Start) → length (take s.args.seen (items s.args.table.now)) ≡ s.args.seen
-size s = view_length s.args.table.now s.args.seen s.requires.0
-
-seen : (e : After-item_at-it) → get_or (take e.args.seen (items e.args.table.now)) (e.loop-low.low + (e.loop-low.high - e.loop-low.low) / 2) none ≡ e.item_at-it.result
-seen e =
-    let s = e in
-    view_item s.args.table.now s.args.seen s.requires.0 _ (omega arith) e.item_at-it.ensures
 
 pub loop-low-init : goal.loop-low-init
-loop-low-init c = (omega arith, window_whole _ _ _ (size c))
+loop-low-init c =
+    let size : length (take c.args.seen (items c.args.table.now)) ≡ c.args.seen = view_length c.args.table.now c.args.seen c.requires.0 in
+    (omega arith, window_whole _ _ _ size)
 
 pub returns-then-it-address : goal.returns-then-it-address
 returns-then-it-address c =
-    let e = c in
-    let s = e in
-    sym (found_here (ascends s) _ _ (omega (arith, size s)) (rw (seen e) c.if-it-address.true))
+    let ascends : Ascends 0 (take c.args.seen (items c.args.table.now)) = ruled_ascends (take c.args.seen (items c.args.table.now)) c.requires.1 in
+    let size : length (take c.args.seen (items c.args.table.now)) ≡ c.args.seen = view_length c.args.table.now c.args.seen c.requires.0 in
+    let seen : get_or (take c.args.seen (items c.args.table.now)) (c.loop-low.low + (c.loop-low.high - c.loop-low.low) / 2) none ≡ c.item_at-it.result = view_item c.args.table.now c.args.seen c.requires.0 _ (omega arith) c.item_at-it.ensures in
+    sym (found_here ascends _ _ (omega (arith, size)) (rw seen c.if-it-address.true))
 
 pub loop-low-preserved-then-it-address-2 : goal.loop-low-preserved-then-it-address-2
 loop-low-preserved-then-it-address-2 c =
-    let e = c in
-    let s = e in
-    (omega arith, window_up (ascends s) e.loop-low.invariant.1 _ (omega arith) (rw (seen e) c.if-it-address-2.true))
+    let ascends : Ascends 0 (take c.args.seen (items c.args.table.now)) = ruled_ascends (take c.args.seen (items c.args.table.now)) c.requires.1 in
+    let seen : get_or (take c.args.seen (items c.args.table.now)) (c.loop-low.low + (c.loop-low.high - c.loop-low.low) / 2) none ≡ c.item_at-it.result = view_item c.args.table.now c.args.seen c.requires.0 _ (omega arith) c.item_at-it.ensures in
+    (omega arith, window_up ascends c.loop-low.invariant.1 _ (omega arith) (rw seen c.if-it-address-2.true))
 
 pub loop-low-preserved : goal.loop-low-preserved
 loop-low-preserved c =
-    let e = c in
-    let s = e in
-    let above : s.args.address < e.item_at-it.result.start = omega (arith, c.if-it-address.false) in
-    (omega arith, window_down (ascends s) e.loop-low.invariant.1 _ (omega arith) (omega arith) (rw (seen e) above))
+    let ascends : Ascends 0 (take c.args.seen (items c.args.table.now)) = ruled_ascends (take c.args.seen (items c.args.table.now)) c.requires.1 in
+    let seen : get_or (take c.args.seen (items c.args.table.now)) (c.loop-low.low + (c.loop-low.high - c.loop-low.low) / 2) none ≡ c.item_at-it.result = view_item c.args.table.now c.args.seen c.requires.0 _ (omega arith) c.item_at-it.ensures in
+    let above : c.args.address < c.item_at-it.result.start = omega (arith, c.if-it-address.false) in
+    (omega arith, window_down ascends c.loop-low.invariant.1 _ (omega arith) (omega arith) (rw seen above))
 
 pub returns : goal.returns
-returns c = sym (window_empty (ascends c) c.loop-low.invariant.1 (omega arith))
+returns c =
+    let ascends : Ascends 0 (take c.args.seen (items c.args.table.now)) = ruled_ascends (take c.args.seen (items c.args.table.now)) c.requires.1 in
+    sym (window_empty ascends c.loop-low.invariant.1 (omega arith))

@@ -8,7 +8,7 @@ use Rattle.directory.proofs.Finds.{found_here, Window, window_whole, window_up, 
 use Rattle.directory.proofs.find_in.Given as goal
 
 abbrev pub invariant-loop-low : goal.invariant-loop-low
-invariant-loop-low l = (l.high ≤ l.n) × Window (take l.n (items l.t)) l.address l.low l.high
+invariant-loop-low l = (l.high ≤ l.seen) × Window (take l.seen (items l.table)) l.address l.low l.high
 
 abbrev pub decreases-loop-low : goal.decreases-loop-low
 decreases-loop-low l = l.high - l.low

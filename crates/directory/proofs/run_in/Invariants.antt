@@ -14,9 +14,9 @@ use Rattle.directory.proofs.run_in.Given as goal
 
 abbrev pub invariant-loop-due : goal.invariant-loop-due
 invariant-loop-due l = (l.first ≤ l.i) ×
-    (l.i ≤ l.n) ×
-    (run_in (take l.n (items l.t)) l.start l.words ≡ run_from (take l.n (items l.t)) l.first (l.i - l.first) l.next l.due) ×
-    Stands (take l.n (items l.t)) l.i l.next
+    (l.i ≤ l.seen) ×
+    (run_in (take l.seen (items l.table)) l.start l.words ≡ run_from (take l.seen (items l.table)) l.first (l.i - l.first) l.next l.due) ×
+    Stands (take l.seen (items l.table)) l.i l.next
 
 abbrev pub decreases-loop-due : goal.decreases-loop-due
-decreases-loop-due l = l.n - l.i
+decreases-loop-due l = l.seen - l.i

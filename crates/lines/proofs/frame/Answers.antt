@@ -9,4 +9,4 @@ returns-then-line_ok c =
     let p = c in
     let s = p in
     let ok : line_ok s.args.line.now ≡ true = cc in
-    record { told = simp (ok, p.put_bytes.ensures.0); bytes = simp (ok, p.put_bytes.ensures.1) }
+    record { told = simp (ok, p.put_bytes.ensures.value); bytes = simp (ok, p.put_bytes.ensures.buffer_after) }

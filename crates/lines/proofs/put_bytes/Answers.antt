@@ -42,4 +42,4 @@ pub returns : goal.returns
 returns c =
     let a = c in
     let s = a in
-    (omega (arith, bytes_length s.args.line.now), sym (done s.args.line.now a.loop-i.buffer a.loop-i.i (length s.args.buffer.now) (omega arith)) ∙ a.loop-i.invariant.3)
+    record { value = omega (arith, bytes_length s.args.line.now); buffer_after = sym (done s.args.line.now a.loop-i.buffer a.loop-i.i (length s.args.buffer.now) (omega arith)) ∙ a.loop-i.invariant.3 }
