@@ -1,0 +1,41 @@
+-- The record and the sample are within limits, so every sum has room.
+use Rattle.std.proofs.Common.{◌∙◌}
+use Rattle.average.specs.Windows.{after_second}
+use Rattle.average.proofs.Limits.{joins}
+use Rattle.meter.specs.Samples.{in_force}
+use Rattle.meter.specs.Energies.{with_powers}
+use Rattle.meter.specs.Groups.{code_of}
+use Rattle.meter.specs.Meters.{meter_t, with_counters, with_latest, with_average}
+use Rattle.meter.proofs.Parts.{meter_parts, held_p, held_q, p_most, room}
+use borrow.Author.Rules.{rules}
+use Rattle.meter.proofs.Meter.counted.Goals as goal
+
+pub in_force-p-requires : goal.in_force-p-requires
+in_force-p-requires c = held_p c.args.self c.args.sample c.requires.0 c.requires.1
+
+pub in_force-requires : goal.in_force-requires
+in_force-requires c =
+    let s = c in
+    held_q s.args.self s.args.sample s.requires.0 s.requires.1
+
+pub plus-next-requires : goal.plus-next-requires
+plus-next-requires c =
+    let s = c in
+    rw (c.in_force-p.ensures, c.in_force.ensures)
+    (room s.args.self s.args.sample s.requires.0 s.requires.1)
+
+pub after-next-requires : goal.after-next-requires
+after-next-requires c =
+    let s = c in
+    let m = s.args.self in
+    rw c.in_force-p.ensures
+    (joins (meter_t m) (code_of m.setup) m.average (in_force s.args.sample.p) (meter_parts m s.requires.0).average (p_most m s.args.sample s.requires.0 s.requires.1))
+
+pub returns : goal.returns
+returns c =
+    let p = c in
+    let s = p in
+    let m = s.args.self in
+    let counters = c.plus-next.ensures ∙ (λ i. with_powers m.counters (p.in_force-p.ensures i) (c.in_force.ensures i)) in
+    let average = c.after-next.ensures ∙ (λ i. after_second (c.code.ensures i) m.average (p.in_force-p.ensures i)) in
+    λ i. with_average (with_latest (with_counters m (counters i)) s.args.sample) (average i)

@@ -1,0 +1,29 @@
+-- The rules are looked at in another order than the paper has them, which makes no difference to whether one of them holds.
+use Rattle.std.proofs.Common.{arith}
+use borrow.Author.Tests.{le-leb, lt-leb}
+use Rattle.modbus.proofs.Frames.{by_length, by_address, by_function, by_crc, long_enough}
+use borrow.Author.Rules.{rules}
+use Rattle.modbus.proofs.silence.Goals as goal
+
+pub returns-then-n : goal.returns-then-n
+returns-then-n c = by_length c.args.own c.args.frame.now c.if-n.true
+
+pub bounds-frame-0 : goal.bounds-frame-0
+bounds-frame-0 c =
+    omega (arith, long_enough c.args.own c.args.frame.now c.if-n.false)
+
+pub returns-then-address-own : goal.returns-then-address-own
+returns-then-address-own c = by_address c.args.own c.args.frame.now c.if-address-own.true
+
+pub bounds-frame-1 : goal.bounds-frame-1
+bounds-frame-1 c =
+    omega (arith, long_enough c.args.own c.args.frame.now c.if-n.false)
+
+pub returns-then-frame-ge-ERROR_FLAG : goal.returns-then-frame-ge-ERROR_FLAG
+returns-then-frame-ge-ERROR_FLAG c = by_function c.args.own c.args.frame.now (le-leb _ _ c.if-frame-ge-ERROR_FLAG.true)
+
+pub returns : goal.returns
+returns c =
+    let a = c.args in
+    let quiet = by_crc a.own a.frame.now c.if-n.false c.if-address-own.false (lt-leb _ _ c.if-frame-ge-ERROR_FLAG.false) in
+    rw c.intact.ensures quiet

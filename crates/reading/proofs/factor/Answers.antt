@@ -1,0 +1,44 @@
+-- The tests are the definition's own; a word's magnitude is far below a u64's tenth.
+use Rattle.std.proofs.Common.{ap, ◌∙◌, Bool, true, false, cond, ℕ, ◌-◌, ◌≤◌, ◌<◌, arith}
+use lib.Dec.{leb, ltb}
+use Rattle.refusal.specs.declared.Refusal.TheVariants.{ValueImpossible}
+use Rattle.signed.specs.declared.Signed.{Signed}
+use Rattle.words.specs.Signed.{magnitude_in}
+use Rattle.reading.specs.declared.Quantity.TheVariants.{Factor}
+use Rattle.reading.specs.declared.Answer.{Answer}
+use Rattle.reading.specs.declared.Answer.TheVariants.{Reading, Refused}
+use Rattle.reading.specs.Readings.{times}
+use borrow.Author.Rules.{rules}
+use Rattle.reading.proofs.factor.Goals as goal
+
+-- what is read, where the magnitude is at most its top
+abbrev read : ℕ → ℕ → Signed → Answer
+read top unit s = cond (ltb top s.magnitude) (Refused ValueImpossible) (Reading (Factor (times unit s)))
+
+magnitude_most : (v : ℕ) → v < 65536 → magnitude_in 1 v ≤ 65536
+magnitude_most v h = by (leb 32768 v)
+  where
+    by : (b : Bool) → cond b (65536 - v) v ≤ 65536
+    by true = omega arith
+    by false = omega (arith, h)
+
+pub returns-then-long : goal.returns-then-long
+returns-then-long c =
+    let l = c in
+    rw l.if-long.true
+    (c.unless.ensures
+    ∙ ap (λ (s : Signed). cond (ltb 1000 s.magnitude) (Refused ValueImpossible) (Reading (Factor s))) l.signed_long-s.ensures)
+
+pub overflow_cast-value : goal.overflow_cast-value
+overflow_cast-value c = omega (arith, c.requires c.if-long.false)
+
+pub overflow_mul-tenfold : goal.overflow_mul-tenfold
+overflow_mul-tenfold c =
+    let w = c in
+    let s = w in
+    omega (arith, ap (λ (s : Signed). s.magnitude) w.signed_word-s.ensures, magnitude_most s.args.value (s.requires w.if-long.false))
+
+pub returns : goal.returns
+returns c =
+    let w = c in
+    rw w.if-long.false (c.unless-2.ensures ∙ ap (read 100 10) w.signed_word-s.ensures)
