@@ -1,0 +1,16 @@
+-- A power within its limit, in whole units, fits a signed L.
+use Rattle.std.proofs.Common.{sym, arith}
+use Rattle.ratio.proofs.Powers.{powers_fit}
+use Rattle.meter.specs.Meters.{meter_t}
+use Rattle.registers.specs.Shown.{power_at}
+use Rattle.registers.proofs.Values.{signed_at, power_most}
+use borrow.Author.Rules.{rules}
+use Rattle.registers.proofs.signed_power.Goals as goal
+
+pub overflow_cast-p : goal.overflow_cast-p
+overflow_cast-p c =
+    let most = powers_fit.signed (meter_t c.args.m) (power_at c.args.m c.args.which).magnitude (power_most c.args.m c.args.which c.requires) in
+    rw c.power_at-p.ensures (record { fits = omega (arith, most) })
+
+pub returns : goal.returns
+returns c = rw (c.twos_long.ensures, c.power_at-p.ensures) (sym (signed_at c.args.m c.args.which))

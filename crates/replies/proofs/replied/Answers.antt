@@ -1,0 +1,85 @@
+-- The tests are the definition's own, in its order.
+use lib.ListN.{length}
+use Rattle.std.proofs.Common.{◌≡◌, sym, ◌∙◌, arith, List, true, false, ◌||◌, ℕ, ◌≤◌}
+use lib.Dec.{ltb}
+use borrow.Author.Tests.{not-true, not-false, eq-eqb, ne_eqb, ltb-false}
+use Rattle.crc.specs.Crc.{intact}
+use Rattle.modbus.proofs.Frames.{neither}
+use Rattle.replies.specs.Judged.{length_wrong}
+use Rattle.replies.proofs.Judged.{length_refused, crc_refused, foreign_refused, error_given, misfit_refused, data_given, misfit_read}
+use borrow.Author.Rules.{rules}
+use Rattle.replies.proofs.replied.Goals as goal
+
+-- the bytes that are looked at are there
+long : (reply : List ℕ) → (ltb (length reply) 5 || ltb 256 (length reply)) ≡ false → 5 ≤ length reply
+long reply h = ltb-false (length reply) 5 (neither (ltb (length reply) 5) (ltb 256 (length reply)) h).0
+
+pub returns-then-n : goal.returns-then-n
+returns-then-n c =
+    let a = c.args in
+    length_refused a.request.now a.reply.now a.asked
+    c.if-n.true
+
+pub returns-then-not-intact : goal.returns-then-not-intact
+returns-then-not-intact c =
+    let a = c.args in
+    crc_refused a.request.now a.reply.now a.asked
+    c.if-n.false (sym c.intact.ensures ∙ c.if-not-intact.true)
+
+pub bounds-reply-1 : goal.bounds-reply-1
+bounds-reply-1 c = omega (arith, long c.args.reply.now c.if-n.false)
+
+pub bounds-reply-0 : goal.bounds-reply-0
+bounds-reply-0 c = omega (arith, long c.args.reply.now c.if-n.false)
+
+pub bounds-request-0 : goal.bounds-request-0
+bounds-request-0 c = omega (arith, c.requires)
+
+pub returns-then-reply-request : goal.returns-then-reply-request
+returns-then-reply-request c =
+    let right_length : length_wrong c.args.reply.now ≡ false = c.if-n.false in
+    let whole : intact c.args.reply.now ≡ true = sym c.intact.ensures ∙ c.if-not-intact.false in
+    let a = c.args in
+    foreign_refused a.request.now a.reply.now a.asked right_length whole c.if-reply-request.true
+
+pub error-requires : goal.error-requires
+error-requires c = long c.args.reply.now c.if-n.false
+
+pub returns-then-function : goal.returns-then-function
+returns-then-function c =
+    let right_length : length_wrong c.args.reply.now ≡ false = c.if-n.false in
+    let whole : intact c.args.reply.now ≡ true = sym c.intact.ensures ∙ c.if-not-intact.false in
+    let a = c.args in
+    c.error.ensures
+    ∙ error_given a.request.now a.reply.now a.asked
+    right_length whole c.if-reply-request.false (eq-eqb _ _ c.if-function.true)
+
+pub bounds-reply-2 : goal.bounds-reply-2
+bounds-reply-2 c = omega (arith, long c.args.reply.now c.if-n.false)
+
+pub overflow_cast-bytes : goal.overflow_cast-bytes
+overflow_cast-bytes c = omega (arith, c.shared_slice_known-6-1.given 2)
+
+pub word_at-requires : goal.word_at-requires
+word_at-requires c = omega (arith, c.requires)
+
+pub overflow_add-bytes : goal.overflow_add-bytes
+overflow_add-bytes c = omega (arith, c.shared_slice_known-6-1.given 2)
+
+pub returns-then-bytes-word_at : goal.returns-then-bytes-word_at
+returns-then-bytes-word_at c =
+    let right_length : length_wrong c.args.reply.now ≡ false = c.if-n.false in
+    let whole : intact c.args.reply.now ≡ true = sym c.intact.ensures ∙ c.if-not-intact.false in
+    let a = c.args in
+    misfit_refused a.request.now a.reply.now a.asked
+    right_length whole c.if-reply-request.false (ne_eqb _ _ c.if-function.false)
+    (misfit_read a.request.now a.reply.now _ true c.word_at.ensures c.if-bytes-word_at.true)
+
+pub returns : goal.returns
+returns c =
+    let right_length : length_wrong c.args.reply.now ≡ false = c.if-n.false in
+    let whole : intact c.args.reply.now ≡ true = sym c.intact.ensures ∙ c.if-not-intact.false in
+    let a = c.args in
+    data_given a.request.now a.reply.now a.asked
+    right_length whole c.if-reply-request.false (ne_eqb _ _ c.if-function.false)
+    (misfit_read a.request.now a.reply.now _ false c.word_at.ensures c.if-bytes-word_at.false)

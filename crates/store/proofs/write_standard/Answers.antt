@@ -1,0 +1,42 @@
+-- The count is tested, then the words are read, then the group is tested: each return has a law of the definition for it.
+use Rattle.std.proofs.Common.{◌≡◌, sym, ap, ◌∙◌, Bool, List, ℕ, arith}
+use borrow.Author.Rules.{rules}
+use borrow.Author.Tests.{not-true, not-false}
+use Rattle.setup.specs.Ranges.{group_ok}
+use Rattle.modbus.specs.Frame.{word_number, words_at, write_values}
+use Rattle.modbus.proofs.Frames.{shaped_length}
+use Rattle.meter.specs.declared.Meter.{Meter}
+use Rattle.meter.specs.Groups.{with_standard}
+use Rattle.meter.specs.Meters.{set_up_of}
+use Rattle.store.specs.declared.Verdict.TheVariants.{Good}
+use Rattle.store.proofs.Stored.{not_16, bad_16, good_16}
+use Rattle.store.proofs.write_standard.Goals as goal
+
+pub word_at-requires : goal.word_at-requires
+word_at-requires c = omega (arith, (shaped_length c.args.frame.now c.requires.0).0)
+
+pub returns-then-word_at-ne16 : goal.returns-then-word_at-ne16
+returns-then-word_at-ne16 c = c.wrong.ensures ∙ not_16 c.args.m c.args.frame.now c.requires.0 c.requires.1 (λ e. c.if-word_at-ne16.true (c.word_at.ensures ∙ e))
+
+pub values-requires : goal.values-requires
+values-requires c =
+    let number : word_number c.args.frame.now ≡ 16 = sym c.word_at.ensures ∙ c.if-word_at-ne16.false in
+    omega (arith, (shaped_length c.args.frame.now c.requires.0).1, number)
+
+pub returns-then-not-standard_ok : goal.returns-then-not-standard_ok
+returns-then-not-standard_ok c =
+    let number : word_number c.args.frame.now ≡ 16 = sym c.word_at.ensures ∙ c.if-word_at-ne16.false in
+    let stored : c.values.new.into ≡ write_values c.args.frame.now = let frame = c.args.frame.now in
+    c.values.ensures ∙ ap (λ (k : ℕ). words_at k frame 7) (sym number) in
+    let n = number in
+    c.wrong-then-not-standard_ok.ensures ∙ bad_16 c.args.m c.args.frame.now c.requires.0 c.requires.1 n (sym (c.standard_ok.ensures ∙ ap (group_ok 0x2000) stored) ∙ c.if-not-standard_ok.true)
+
+pub returns : goal.returns
+returns c =
+    let number : word_number c.args.frame.now ≡ 16 = sym c.word_at.ensures ∙ c.if-word_at-ne16.false in
+    let stored : c.values.new.into ≡ write_values c.args.frame.now = let frame = c.args.frame.now in
+    c.values.ensures ∙ ap (λ (k : ℕ). words_at k frame 7) (sym number) in
+    let n = number in
+    let next = c.with_standard.ensures ∙ ap (λ (g : List ℕ). set_up_of c.args.m (with_standard c.args.m.setup g)) stored in
+    let good = sym (c.standard_ok.ensures ∙ ap (group_ok 0x2000) stored) ∙ c.if-not-standard_ok.false in
+    ap (λ (m : Meter). record { verdict = Good; meter = m }) next ∙ good_16 c.args.m c.args.frame.now c.requires.0 c.requires.1 n good
