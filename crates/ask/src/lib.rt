@@ -2,6 +2,7 @@
 #![tactic(auto)]
 
 use board::{Meter, Reply};
+use std::io::{self, Stdout};
 
 pub const REPLY_ROOM: usize = 256;
 
@@ -21,36 +22,36 @@ pub fn read(address: u8, start: u16, words: u8) -> [u8; 8] {
 }
 
 // A frame by its name, and what it is answered with. Hands back the meter after it.
-pub fn send(m: Meter, name: &[u8], frame: &[u8]) -> Meter {
-    say::text(name);
-    told(b", asked", frame);
+pub fn send(out: Stdout, m: Meter, name: &[u8], frame: &[u8]) -> io::Result<Meter> {
+    say::text(out, name)?;
+    told(out, b", asked", frame)?;
     let mut buffer = [0u8; REPLY_ROOM];
     let handled = board::handle(m, frame, &mut buffer);
     let did = handled.reply;
     let Reply::Sent(n) = did else {
-        unanswered(did);
-        return handled.meter;
+        unanswered(out, did)?;
+        return Ok(handled.meter);
     };
-    told(b", answered", &buffer[..n]);
-    say::end();
-    handled.meter
+    told(out, b", answered", &buffer[..n])?;
+    say::end(out)?;
+    Ok(handled.meter)
 }
 
-fn told(what: &[u8], bytes: &[u8]) {
-    say::text(what);
+fn told(out: Stdout, what: &[u8], bytes: &[u8]) -> io::Result<()> {
+    say::text(out, what)?;
     if bytes.len() <= SHORT {
-        say::bytes(bytes);
+        say::bytes(out, bytes)
     } else {
-        say::sentence(b" with # bytes", &[bytes.len() as u64]);
+        say::sentence(out, b" with # bytes", &[bytes.len() as u64])
     }
 }
 
-pub fn unanswered(did: Reply) {
+pub fn unanswered(out: Stdout, did: Reply) -> io::Result<()> {
     if let Reply::Refused(reason) = did {
-        say::text(b", ");
-        say::refused(reason);
+        say::text(out, b", ")?;
+        say::refused(out, reason)?;
     } else {
-        say::text(b", silent");
+        say::text(out, b", silent")?;
     }
-    say::end();
+    say::end(out)
 }

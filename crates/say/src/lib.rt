@@ -4,53 +4,56 @@
 
 ghost use Rattle.std.specs.Prelude.{◌≤◌, length};
 
-use libc::STDOUT_FILENO;
 use refusal::{ErrorCode, Refusal};
+use std::io::{self, Stdout, Write};
 
 const LINE_FEED: u8 = 0x0A;
 
 // Where a number stands in a sentence.
 const MARK: u8 = b'#';
 
-pub fn text(t: &[u8]) {
-    io::write_all(STDOUT_FILENO, t);
+pub fn text(mut out: Stdout, t: &[u8]) -> io::Result<()> {
+    out.write_all(t)
 }
 
-pub fn number(n: u64) {
-    io::print_decimal(STDOUT_FILENO, n);
+pub fn number(out: Stdout, n: u64) -> io::Result<()> {
+    print!(out; "{n}")
 }
 
 // A number behind its name.
-pub fn field(name: &[u8], n: u64) {
-    text(name);
-    number(n);
+pub fn field(out: Stdout, name: &[u8], n: u64) -> io::Result<()> {
+    text(out, name)?;
+    number(out, n)
 }
 
 // A sentence, with each number at its mark.
-pub fn sentence(words: &[u8], numbers: &[u64]) {
+pub fn sentence(out: Stdout, words: &[u8], numbers: &[u64]) -> io::Result<()> {
     let mut at: usize = 0;
     let mut told: usize = 0;
     while at < words.len() {
         let end = until(MARK, words, at);
-        text(&words[at..end]);
+        text(out, &words[at..end])?;
         if end == words.len() {
-            return;
+            return Ok(());
         }
-        number_at(numbers, told);
+        number_at(out, numbers, told)?;
         told += 1;
         at = end + 1;
     }
+    Ok(())
 }
 
-fn number_at(numbers: &[u64], i: usize) {
+fn number_at(out: Stdout, numbers: &[u64], i: usize) -> io::Result<()> {
     if i < numbers.len() {
-        number(numbers[i]);
+        number(out, numbers[i])?;
     }
+    Ok(())
 }
 
 // The rows of paper 01's refusal table and paper 02's, shortened.
-pub fn refused(reason: Refusal) {
+pub fn refused(out: Stdout, reason: Refusal) -> io::Result<()> {
     numbered(
+        out,
         b"refused ",
         reason.number(),
         b"none\n\
@@ -69,32 +72,33 @@ pub fn refused(reason: Refusal) {
         value impossible\n\
         count, Low or High over its top\n\
         row shorter than the items\n",
-    );
+    )
 }
 
 // A meter's error codes, in the documents' words.
-pub fn error(code: ErrorCode) {
+pub fn error(out: Stdout, code: ErrorCode) -> io::Result<()> {
     numbered(
+        out,
         b"error 0",
         code.number(),
         b"none\nincorrect function\nwrong first address\nincorrect data\n",
-    );
+    )
 }
 
-fn numbered(what: &[u8], n: u8, names: &[u8]) {
-    field(what, n as u64);
-    text(b", ");
-    name(names, n as usize);
+fn numbered(out: Stdout, what: &[u8], n: u8, names: &[u8]) -> io::Result<()> {
+    field(out, what, n as u64)?;
+    text(out, b", ")?;
+    name(out, names, n as usize)
 }
 
 // The name of a number, in a list of names that has a line for each number from 0 on. Past the list, the number itself.
-pub fn name(names: &[u8], n: usize) {
+pub fn name(out: Stdout, names: &[u8], n: usize) -> io::Result<()> {
     let start = line_start(names, n);
     if start < names.len() {
         let end = until(LINE_FEED, names, start);
-        text(&names[start..end]);
+        text(out, &names[start..end])
     } else {
-        number(n as u64);
+        number(out, n as u64)
     }
 }
 
@@ -128,25 +132,26 @@ fn until(byte: u8, t: &[u8], start: usize) -> usize
     i
 }
 
-pub fn end() {
-    text(b"\n");
+pub fn end(out: Stdout) -> io::Result<()> {
+    text(out, b"\n")
 }
 
 // A number in hexadecimal, at least `width` digits.
-pub fn hex(n: u64, width: usize) {
-    io::print_hex(STDOUT_FILENO, n, width);
+pub fn hex(out: Stdout, n: u64, width: usize) -> io::Result<()> {
+    print!(out; "{n:0width$x}")
 }
 
-fn byte(b: u8) {
-    text(b" ");
-    hex(b as u64, 2);
+fn byte(out: Stdout, b: u8) -> io::Result<()> {
+    text(out, b" ")?;
+    hex(out, b as u64, 2)
 }
 
 // A space before each byte.
-pub fn bytes(b: &[u8]) {
+pub fn bytes(out: Stdout, b: &[u8]) -> io::Result<()> {
     let mut i: usize = 0;
     while i < b.len() {
-        byte(b[i]);
+        byte(out, b[i])?;
         i += 1;
     }
+    Ok(())
 }

@@ -1,0 +1,68 @@
+-- The function decides; what is for all meters is answered by none.
+use Rattle.std.proofs.Common.{◌≡◌, sym, ap, ◌∙◌, Bool, true, false, ◌&&◌, not, and-eq-true_iff, arith}
+use borrow.Author.Rules.{rules}
+use borrow.Author.Tests.{eq-eqb, ne_eqb, not-true}
+use Rattle.modbus.proofs.Frames.{Heeded, heeded}
+use Rattle.own.specs.Own.{own}
+use Rattle.modbus.specs.Frame.{silence}
+use Rattle.board.specs.Board.{Outcome, obeyed_in, address_for, view_for}
+use Rattle.board.proofs.Cases.{allowed, unwritten, read_sent, other_sent}
+use Rattle.board.proofs.obey.Goals as goal
+
+-- what a frame may write is no tenant's
+no_tenant : (tenant w : Bool) → (not tenant && w) ≡ true → tenant ≡ false
+no_tenant tenant w h = not-true _ ((and-eq-true_iff (not tenant) w).0 h).0
+
+pub bounds-frame-1 : goal.bounds-frame-1
+bounds-frame-1 c =
+    let heard : Heeded (address_for c.args.meter.given c.args.tenant) c.args.frame.now = heeded (address_for c.args.meter.given c.args.tenant) c.args.frame.now c.requires.frame_value in
+    omega (arith, heard.least)
+
+pub write-requires : goal.write-requires
+write-requires c =
+    let own-one = no_tenant c.args.tenant _ c.if-tenant-frame.true in
+    record { frame_value = ap (λ (t : Bool). silence (address_for c.args.meter.given t) c.args.frame.now) (sym own-one) ∙ c.requires.frame_value; frame_value_2 = ((and-eq-true_iff (not c.args.tenant) _).0 c.if-tenant-frame.true).1; in_bounds = c.requires.in_bounds }
+
+pub returns-then-tenant-frame : goal.returns-then-tenant-frame
+returns-then-tenant-frame c =
+    let e = c.write.ensures in
+    let same : obeyed_in own true c.args.meter c.args.frame.now c.args.buffer.now ≡ obeyed_in (view_for own c.args.tenant) (not c.args.tenant) c.args.meter c.args.frame.now c.args.buffer.now =
+    ap (λ (t : Bool). obeyed_in (view_for own t) (not t) c.args.meter c.args.frame.now c.args.buffer.now) (sym (no_tenant c.args.tenant _ c.if-tenant-frame.true)) in
+    record { handled = e.handled ∙ ap (λ (o : Outcome). o.handled) same; bytes = e.bytes ∙ ap (λ (o : Outcome). o.buffer) same }
+
+pub bounds-frame-0 : goal.bounds-frame-0
+bounds-frame-0 c =
+    let heard : Heeded (address_for c.args.meter.given c.args.tenant) c.args.frame.now = heeded (address_for c.args.meter.given c.args.tenant) c.args.frame.now c.requires.frame_value in
+    omega (arith, heard.least)
+
+pub returns-then-frame-eq-BROADCAST : goal.returns-then-frame-eq-BROADCAST
+returns-then-frame-eq-BROADCAST c =
+    let b = allowed (unwritten (view_for own c.args.tenant) (not c.args.tenant) c.args.meter c.args.frame.now c.args.buffer.now c.if-tenant-frame.false c.if-frame-eq-BROADCAST.true) in
+    record { handled = c.hand_back.ensures ∙ b.handled; bytes = b.bytes }
+
+pub bounds-frame-1-2 : goal.bounds-frame-1-2
+bounds-frame-1-2 c =
+    let heard : Heeded (address_for c.args.meter.given c.args.tenant) c.args.frame.now = heeded (address_for c.args.meter.given c.args.tenant) c.args.frame.now c.requires.frame_value in
+    omega (arith, heard.least)
+
+pub read-length-requires : goal.read-length-requires
+read-length-requires c =
+    let heard : Heeded (address_for c.args.meter.given c.args.tenant) c.args.frame.now = heeded (address_for c.args.meter.given c.args.tenant) c.args.frame.now c.requires.frame_value in
+    let h = heard in
+    record { m_value = c.requires.meter_value; in_bounds = (omega (arith, h.least), h.low); in_bounds_2 = c.requires.in_bounds }
+
+pub put_error-length-requires : goal.put_error-length-requires
+put_error-length-requires c =
+    let heard : Heeded (address_for c.args.meter.given c.args.tenant) c.args.frame.now = heeded (address_for c.args.meter.given c.args.tenant) c.args.frame.now c.requires.frame_value in
+    let h = heard in
+    (omega (arith, h.least), h.low, c.requires.in_bounds)
+
+pub returns-then-frame-eq-READ_HOLDING_REGISTERS : goal.returns-then-frame-eq-READ_HOLDING_REGISTERS
+returns-then-frame-eq-READ_HOLDING_REGISTERS c =
+    let e = c.read-length.ensures in
+    allowed (read_sent (view_for own c.args.tenant) (not c.args.tenant) c.args.meter c.args.frame.now c.args.buffer.now (eq-eqb _ _ c.if-frame-eq-READ_HOLDING_REGISTERS.true) c.if-frame-eq-BROADCAST.false _ _ e.0 e.1)
+
+pub returns-else-frame-eq-READ_HOLDING_REGISTERS : goal.returns-else-frame-eq-READ_HOLDING_REGISTERS
+returns-else-frame-eq-READ_HOLDING_REGISTERS c =
+    let e = c.put_error-length.ensures in
+    allowed (other_sent (view_for own c.args.tenant) (not c.args.tenant) c.args.meter c.args.frame.now c.args.buffer.now (ne_eqb _ _ c.if-frame-eq-READ_HOLDING_REGISTERS.false) c.if-tenant-frame.false c.if-frame-eq-BROADCAST.false _ _ e.0 e.1)

@@ -1,0 +1,50 @@
+-- Request and reply are judged as the definition does; the items that there is data for stand in a part of the table.
+use lib.ListN.{length}
+use Rattle.std.proofs.Common.{◌≡◌, sym, ap, ap₂, ◌∙◌, List, ℕ}
+use Rattle.directory.specs.declared.Item.{Item}
+use Rattle.directory.specs.Item.{items}
+use Rattle.directory.specs.Views.{View, view_of}
+use Rattle.replies.specs.declared.Judgement.{Judgement}
+use Rattle.replies.specs.declared.Judgement.TheVariants.{Items}
+use Rattle.replies.specs.Judged.{judged_in}
+use Rattle.collector.specs.Collector.{item_of}
+use Rattle.collector.specs.Whole.{in_turn, Rows, filled_by}
+use Rattle.collector.proofs.Parts.{DataPart, data_part}
+use Rattle.collector.proofs.Rows.{allowed, allowed_by, whole_coded, whole_refused, whole_items}
+use borrow.Author.Rules.{rules}
+use Rattle.collector.proofs.whole.with_table.Goals as goal
+
+pub judge-judged-requires : goal.judge-judged-requires
+judge-judged-requires c = c.requires
+
+pub part-asked-requires : goal.part-asked-requires
+part-asked-requires c =
+    let found : (judged_in (view_of c.args.table.now c.args.reach) c.args.request.now c.args.reply.now c.args.plate.ratios) ≡ Items c.judged.given.0.0 c.judged.given.0.1.0 = sym c.judge-judged.ensures ∙ c.judged.given.1 in
+    let part : DataPart c.args.table.now c.args.reach c.args.reply.now c.judged.given.0.0 c.judged.given.0.1.0 = data_part c.args.table.now c.args.reach c.requires c.args.request.now c.args.reply.now c.args.plate.ratios _ _ found in
+    part.inside
+
+pub fill-requires : goal.fill-requires
+fill-requires c =
+    let found : (judged_in (view_of c.args.table.now c.args.reach) c.args.request.now c.args.reply.now c.args.plate.ratios) ≡ Items c.judged.given.0.0 c.judged.given.0.1.0 = sym c.judge-judged.ensures ∙ c.judged.given.1 in
+    let part : DataPart c.args.table.now c.args.reach c.args.reply.now c.judged.given.0.0 c.judged.given.0.1.0 = data_part c.args.table.now c.args.reach c.requires c.args.request.now c.args.reply.now c.args.plate.ratios _ _ found in
+    let p = part in
+    rw c.part-asked.ensures ((p.shapely, p.means), (p.words, p.few))
+
+pub returns-in-Items : goal.returns-in-Items
+returns-in-Items c =
+    let found : (judged_in (view_of c.args.table.now c.args.reach) c.args.request.now c.args.reply.now c.args.plate.ratios) ≡ Items c.judged.given.0.0 c.judged.given.0.1.0 = sym c.judge-judged.ensures ∙ c.judged.given.1 in
+    let part : DataPart c.args.table.now c.args.reach c.args.reply.now c.judged.given.0.0 c.judged.given.0.1.0 = data_part c.args.table.now c.args.reach c.requires c.args.request.now c.args.reply.now c.args.plate.ratios _ _ found in
+    let a = c.args in
+    let by : ℕ → List Item → Rows = λ t its. filled_by (in_turn (length its) (item_of a.plate.order t its a.reply.now)) a.values.now a.kinds.now in
+    let same = ap₂ by c.tenths.ensures (ap items c.part-asked.ensures ∙ part.holds) ∙ sym (whole_items (view_of c.args.table.now c.args.reach) a.request.now a.reply.now a.plate a.values.now a.kinds.now _ _ found part.seen) in
+    allowed_by same c.fill.ensures
+
+pub returns-in-Error : goal.returns-in-Error
+returns-in-Error c =
+    let a = c.args in
+    allowed (sym (whole_coded (view_of c.args.table.now c.args.reach) a.request.now a.reply.now a.plate a.values.now a.kinds.now _ (sym c.judge-judged.ensures ∙ c.judged2.given.1)))
+
+pub returns-in-Refused : goal.returns-in-Refused
+returns-in-Refused c =
+    let a = c.args in
+    allowed (sym (whole_refused (view_of c.args.table.now c.args.reach) a.request.now a.reply.now a.plate a.values.now a.kinds.now _ (sym c.judge-judged.ensures ∙ c.judged3.given.1)))

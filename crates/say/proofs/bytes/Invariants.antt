@@ -1,0 +1,10 @@
+-- Each turn leaves one byte fewer.
+use lib.ListN.{length}
+use Rattle.std.proofs.Common.{◌≤◌, ◌-◌, arith}
+use Rattle.say.proofs.bytes.Given as goal
+
+abbrev pub invariant-loop-i : goal.invariant-loop-i
+invariant-loop-i l = l.i ≤ length l.b
+
+abbrev pub decreases-loop-i : goal.decreases-loop-i
+decreases-loop-i l = length l.b - l.i
