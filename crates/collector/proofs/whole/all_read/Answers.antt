@@ -51,13 +51,13 @@ item_at-it-requires c = omega (arith, items_length c.args.asked.now, c.loop-i.in
 pub value_at-value-requires : goal.value_at-value-requires
 value_at-value-requires c =
     let below : c.loop-i.i < length (items c.args.asked.now) = omega (arith, c.loop-i.invariant.0) in
-    let found : Known (items c.args.asked.now) c.args.reply.now c.loop-i.i c.loop-i.at c.item_at-it.result = known (items c.args.asked.now) c.args.reply.now c.requires.0 c.requires.1.0 c.loop-i.i _ _ below c.loop-i.invariant.2 c.item_at-it.ensures in
+    let found : Known (items c.args.asked.now) c.args.reply.now c.loop-i.i c.loop-i.at c.item_at-it.result = known (items c.args.asked.now) c.args.reply.now c.requires.t c.requires.asked_in_bounds c.loop-i.i _ _ below c.loop-i.invariant.2 c.item_at-it.ensures in
     let k = found in (k.room, (k.narrow.some, k.narrow.few))
 
 pub of-answer-requires : goal.of-answer-requires
 of-answer-requires c =
     let below : c.loop-i.i < length (items c.args.asked.now) = omega (arith, c.loop-i.invariant.0) in
-    let found : Known (items c.args.asked.now) c.args.reply.now c.loop-i.i c.loop-i.at c.item_at-it.result = known (items c.args.asked.now) c.args.reply.now c.requires.0 c.requires.1.0 c.loop-i.i _ _ below c.loop-i.invariant.2 c.item_at-it.ensures in
+    let found : Known (items c.args.asked.now) c.args.reply.now c.loop-i.i c.loop-i.at c.item_at-it.result = known (items c.args.asked.now) c.args.reply.now c.requires.t c.requires.asked_in_bounds c.loop-i.i _ _ below c.loop-i.invariant.2 c.item_at-it.ensures in
     let k = found in
     let bytes = c.shared_slice_known-2-1.given in
     record { it_value = (k.shapely, k.means); value_bound = rw c.value_at-value.ensures (value_fits c.args.reply.now (λ i. omega (arith, bytes i)) c.args.order c.item_at-it.result.words c.loop-i.at) }
@@ -108,7 +108,7 @@ bounds-numbers-i c =
 pub overflow_add-at : goal.overflow_add-at
 overflow_add-at c =
     let below : c.loop-i.i < length (items c.args.asked.now) = omega (arith, c.loop-i.invariant.0) in
-    let found : Known (items c.args.asked.now) c.args.reply.now c.loop-i.i c.loop-i.at c.item_at-it.result = known (items c.args.asked.now) c.args.reply.now c.requires.0 c.requires.1.0 c.loop-i.i _ _ below c.loop-i.invariant.2 c.item_at-it.ensures in
+    let found : Known (items c.args.asked.now) c.args.reply.now c.loop-i.i c.loop-i.at c.item_at-it.result = known (items c.args.asked.now) c.args.reply.now c.requires.t c.requires.asked_in_bounds c.loop-i.i _ _ below c.loop-i.invariant.2 c.item_at-it.ensures in
     omega (arith, found.room, c.ranges)
 
 pub loop-i-preserved : goal.loop-i-preserved
@@ -121,14 +121,14 @@ loop-i-preserved c =
     ∙ sym (item_reads c.args.order c.args.tenths (items c.args.asked.now) c.args.reply.now l.i below) in
     let l = c.loop-i in
     let p = l.invariant.3 in
-    let q = c.answer.given.0.0 in (
+    let q = c.in-Reading.q in (
       l.invariant.0,
       omega arith,
       rw (add-one l.i) (omega (arith, l.invariant.2, words_upto (items c.args.asked.now) l.i below, ap (λ (it : Item). it.words) c.item_at-it.ensures)),
       rw (add-one l.i)
           (record {
             qs = p.qs ++ (q ∷ []);
-            read = read_next l.i (item_of c.args.order c.args.tenths (items c.args.asked.now) c.args.reply.now) p.qs p.read q (sym read ∙ c.answer.given.1);
+            read = read_next l.i (item_of c.args.order c.args.tenths (items c.args.asked.now) c.args.reply.now) p.qs p.read q (sym read ∙ c.in-Reading.is);
             values = rw (p.values, c.cell.ensures) (laid_next cell_of c.args.cells.now p.qs q l.i (read_length l.i (item_of c.args.order c.args.tenths (items c.args.asked.now) c.args.reply.now) p.qs p.read));
             kinds = rw (p.kinds, c.kind.ensures) (laid_next kind_of c.args.numbers.now p.qs q l.i (read_length l.i (item_of c.args.order c.args.tenths (items c.args.asked.now) c.args.reply.now) p.qs p.read));
           }),
