@@ -71,6 +71,6 @@ returns c =
     let filled = sym (all_filled (in_turn (length (items c.args.asked.now)) (item_of c.args.order c.args.tenths (items c.args.asked.now) c.args.reply.now)) c.args.values.now c.args.kinds.now roomy none) in
     record {
       answers = ap Items count ∙ ap (λ (o : Rows). o.answer) filled;
-      cells = c.lay.ensures.values_after ∙ ap (sets c.args.values.now 0) (laid (replicate 125 0) _ (map cell_of (readings_in (in_turn (length (items c.args.asked.now)) (item_of c.args.order c.args.tenths (items c.args.asked.now) c.args.reply.now)))) _ (r.1.0 all) (length-map (readings_in (in_turn (length (items c.args.asked.now)) (item_of c.args.order c.args.tenths (items c.args.asked.now) c.args.reply.now))) cell_of ∙ readings) few) ∙ ap (λ (o : Rows). o.values) filled;
-      numbers = c.lay.ensures.kinds_after ∙ ap (sets c.args.kinds.now 0) (laid (replicate 125 0) _ (map kind_of (readings_in (in_turn (length (items c.args.asked.now)) (item_of c.args.order c.args.tenths (items c.args.asked.now) c.args.reply.now)))) _ (r.1.1 all) (length-map (readings_in (in_turn (length (items c.args.asked.now)) (item_of c.args.order c.args.tenths (items c.args.asked.now) c.args.reply.now))) kind_of ∙ readings) few) ∙ ap (λ (o : Rows). o.kinds) filled;
+      cells = c.lay.ensures.values_after ∙ ap (sets c.args.values.now 0) (laid (replicate 125 0) _ (map cell_of (readings_in (in_turn (length (items c.args.asked.now)) (item_of c.args.order c.args.tenths (items c.args.asked.now) c.args.reply.now)))) _ (r.cells_after all) (length-map (readings_in (in_turn (length (items c.args.asked.now)) (item_of c.args.order c.args.tenths (items c.args.asked.now) c.args.reply.now))) cell_of ∙ readings) few) ∙ ap (λ (o : Rows). o.values) filled;
+      numbers = c.lay.ensures.kinds_after ∙ ap (sets c.args.kinds.now 0) (laid (replicate 125 0) _ (map kind_of (readings_in (in_turn (length (items c.args.asked.now)) (item_of c.args.order c.args.tenths (items c.args.asked.now) c.args.reply.now)))) _ (r.numbers_after all) (length-map (readings_in (in_turn (length (items c.args.asked.now)) (item_of c.args.order c.args.tenths (items c.args.asked.now) c.args.reply.now))) kind_of ∙ readings) few) ∙ ap (λ (o : Rows). o.kinds) filled;
     }
