@@ -13,6 +13,8 @@ use Rattle.modbus.proofs.Frames.{neither}
 use Rattle.reading.specs.declared.Quantity.{Quantity}
 use Rattle.reading.specs.declared.Answer.{Answer}
 use Rattle.reading.specs.declared.Answer.TheVariants.{Reading}
+use Rattle.reading.specs.Told.{kind_of}
+use Rattle.reading.specs.Cells.{cell_of}
 use Rattle.collector.specs.Whole.{in_turn, is_thirteen, any_thirteen, readings_in}
 
 -- ---- any calls
@@ -178,3 +180,10 @@ module _ (f : Quantity → ℕ) (l : List ℕ) (qs : List Quantity) (i : ℕ) (r
       ∙ get_or-append-add (map f qs) (drop (length qs) l) k 0
       ∙ get_or-drop (length qs) l k 0
       ∙ ap (λ (j : ℕ). get_or l j 0) here
+
+-- the first i items are read, and laid out
+pub record Laid (ask : ℕ → Answer) (cells₀ numbers₀ cells numbers : List ℕ) (i : ℕ) : Type 0 where
+  pub qs : List Quantity
+  pub read : Read i ask qs
+  pub values : cells ≡ sets cells₀ 0 (map cell_of qs)
+  pub kinds : numbers ≡ sets numbers₀ 0 (map kind_of qs)

@@ -1,6 +1,6 @@
 -- Each return has its tests behind it, and a law of the definition for them.
 use lib.ListN.{length}
-use Rattle.std.proofs.Common.{◌≡◌, sym, ap, ◌∙◌, Bool, true, false, not, ℕ}
+use Rattle.std.proofs.Common.{◌≡◌, sym, ap, ◌∙◌, Bool, true, false, not, List, ℕ}
 use lib.Dec.{ltb}
 use borrow.Author.Rules.{rules}
 use borrow.Author.Tests.{not-true, not-false, lt-ltb, le-ltb}
@@ -11,7 +11,6 @@ use Rattle.own.specs.Own.{own}
 use Rattle.board.specs.Board.{obeyed_in, to_second, address_for, view_for}
 use Rattle.board.proofs.Cases.{allowed, board_1, board_2, board_silent, board_obeys}
 use Rattle.board.proofs.handle.Goals as goal
-use Rattle.board.proofs.handle.Goals.{After-silence, Start}
 
 pub returns-then-not-within : goal.returns-then-not-within
 returns-then-not-within c =
@@ -25,41 +24,32 @@ returns-then-buffer-lt-FRAME_MOST c =
     record { handled = c.hand_back-then-buffer-lt-FRAME_MOST.ensures ∙ b.handled; bytes = b.bytes }
 
 -- a frame is judged as the tenant's or not, by the address that goes with it
-module _ (c : After-silence) where
-  abbrev start : Start
-  start = c
+module _ (given : Given) (frame : List ℕ) (tenant : Bool) (address : ℕ) (silent : Bool) (e : address ≡ address_for given tenant) (f : silent ≡ silence address frame) where
+  judged : {b : Bool} → silent ≡ b → silence (address_for given tenant) frame ≡ b
+  judged h = ap (λ (a : ℕ). silence a frame) (sym e) ∙ sym f ∙ h
 
-  abbrev given : Given
-  given = start.args.meter.given
-
-  judged : {b : Bool} → c.silence.result ≡ b → silence (address_for given c.to_second-tenant.result) start.args.frame.now ≡ b
-  judged h = ap (λ (a : ℕ). silence a start.args.frame.now) (sym c.address_for.ensures) ∙ sym c.silence.ensures ∙ h
-
-  tenant : c.to_second-tenant.result ≡ to_second given start.args.frame.now
-  tenant = c.to_second-tenant.ensures
-
-  heard : {b : Bool} → c.silence.result ≡ b → silence (address_for given (to_second given start.args.frame.now)) start.args.frame.now ≡ b
-  heard h = ap (λ (t : Bool). silence (address_for given t) start.args.frame.now) (sym tenant) ∙ judged h
+  heard : {b : Bool} → tenant ≡ to_second given frame → silent ≡ b → silence (address_for given (to_second given frame)) frame ≡ b
+  heard t h = ap (λ (x : Bool). silence (address_for given x) frame) (sym t) ∙ judged h
 
 pub returns-then-silence : goal.returns-then-silence
 returns-then-silence c =
     let within : meter_ok c.args.meter ≡ true = sym c.within.ensures ∙ c.if-not-within.false in
     let room : ltb (length c.args.buffer.now) 256 ≡ false = le-ltb _ _ c.if-buffer-lt-FRAME_MOST.false in
-    let s = start c in
-    let b = allowed (board_silent own s.args.meter s.args.frame.now s.args.buffer.now within room (heard c c.if-silence.true)) in
+    let s = c in
+    let b = allowed (board_silent own s.args.meter s.args.frame.now s.args.buffer.now within room (heard c.args.meter.given c.args.frame.now _ _ _ c.address_for.ensures c.silence.ensures c.to_second-tenant.ensures c.if-silence.true)) in
     record { handled = c.hand_back-then-silence.ensures ∙ b.handled; bytes = b.bytes }
 
 pub obey-requires : goal.obey-requires
 obey-requires c =
     let within : meter_ok c.args.meter ≡ true = sym c.within.ensures ∙ c.if-not-within.false in
-    record { meter_value = within; frame_value = judged c c.if-silence.false; in_bounds = c.if-buffer-lt-FRAME_MOST.false }
+    record { meter_value = within; frame_value = judged c.args.meter.given c.args.frame.now _ _ _ c.address_for.ensures c.silence.ensures c.if-silence.false; in_bounds = c.if-buffer-lt-FRAME_MOST.false }
 
 pub returns : goal.returns
 returns c =
     let within : meter_ok c.args.meter ≡ true = sym c.within.ensures ∙ c.if-not-within.false in
     let room : ltb (length c.args.buffer.now) 256 ≡ false = le-ltb _ _ c.if-buffer-lt-FRAME_MOST.false in
-    let s = start c in
-    let b = board_obeys own s.args.meter s.args.frame.now s.args.buffer.now within room (heard c c.if-silence.false) in
-    let same = ap (λ (t : Bool). obeyed_in (view_for own t) (not t) s.args.meter s.args.frame.now s.args.buffer.now) (tenant c) ∙ b in
+    let s = c in
+    let b = board_obeys own s.args.meter s.args.frame.now s.args.buffer.now within room (heard c.args.meter.given c.args.frame.now _ _ _ c.address_for.ensures c.silence.ensures c.to_second-tenant.ensures c.if-silence.false) in
+    let same = ap (λ (t : Bool). obeyed_in (view_for own t) (not t) s.args.meter s.args.frame.now s.args.buffer.now) c.to_second-tenant.ensures ∙ b in
     let e = c.obey.ensures in
     record { handled = e.handled ∙ (allowed same).handled; bytes = e.bytes ∙ (allowed same).bytes }

@@ -1,5 +1,6 @@
 -- The function decides; what is for all meters is answered by none.
-use Rattle.std.proofs.Common.{◌≡◌, sym, ap, ◌∙◌, Bool, true, false, ◌&&◌, not, and-eq-true_iff, arith}
+use Rattle.std.proofs.Common.{◌≡◌, sym, ap, ◌∙◌, Bool, true, false, ◌&&◌, not, arith}
+use Rattle.std.proofs.Math.Bool.{and-eq-true_iff}
 use borrow.Author.Rules.{rules}
 use borrow.Author.Tests.{eq-eqb, ne_eqb, not-true}
 use Rattle.modbus.proofs.Frames.{Heeded, heeded}
@@ -60,9 +61,9 @@ put_error-length-requires c =
 pub returns-then-frame-eq-READ_HOLDING_REGISTERS : goal.returns-then-frame-eq-READ_HOLDING_REGISTERS
 returns-then-frame-eq-READ_HOLDING_REGISTERS c =
     let e = c.read-length.ensures in
-    allowed (read_sent (view_for own c.args.tenant) (not c.args.tenant) c.args.meter c.args.frame.now c.args.buffer.now (eq-eqb _ _ c.if-frame-eq-READ_HOLDING_REGISTERS.true) c.if-frame-eq-BROADCAST.false _ _ e.0 e.1)
+    allowed (read_sent (view_for own c.args.tenant) (not c.args.tenant) c.args.meter c.args.frame.now c.args.buffer.now (eq-eqb _ _ c.if-frame-eq-READ_HOLDING_REGISTERS.true) c.if-frame-eq-BROADCAST.false _ _ e.value e.buffer_after)
 
 pub returns-else-frame-eq-READ_HOLDING_REGISTERS : goal.returns-else-frame-eq-READ_HOLDING_REGISTERS
 returns-else-frame-eq-READ_HOLDING_REGISTERS c =
     let e = c.put_error-length.ensures in
-    allowed (other_sent (view_for own c.args.tenant) (not c.args.tenant) c.args.meter c.args.frame.now c.args.buffer.now (ne_eqb _ _ c.if-frame-eq-READ_HOLDING_REGISTERS.false) c.if-tenant-frame.false c.if-frame-eq-BROADCAST.false _ _ e.0 e.1)
+    allowed (other_sent (view_for own c.args.tenant) (not c.args.tenant) c.args.meter c.args.frame.now c.args.buffer.now (ne_eqb _ _ c.if-frame-eq-READ_HOLDING_REGISTERS.false) c.if-tenant-frame.false c.if-frame-eq-BROADCAST.false _ _ e.value e.buffer_after)

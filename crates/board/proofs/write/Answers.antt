@@ -22,7 +22,7 @@ returns-then-address-eq-BROADCAST c =
 pub put_echo-length-requires : goal.put_echo-length-requires
 put_echo-length-requires c =
     let w = c.write-written in
-    let good : (written_of c.args.meter c.args.frame.now).verdict ≡ Good = ap (λ (x : Written). x.verdict) (sym w.ensures) ∙ c.enum_told.given.1 in
+    let good : (written_of c.args.meter c.args.frame.now).verdict ≡ Good = ap (λ (x : Written). x.verdict) (sym w.ensures) ∙ c.in-Good.is in
     (omega (arith, (shaped_length c.args.frame.now ((write_when c.args.meter c.args.frame.now).legal.0 good).0).0), c.requires.in_bounds)
 
 pub put_error-length-requires : goal.put_error-length-requires
@@ -35,13 +35,12 @@ returns-in-Good c =
     let w = c.write-written in
     let good : w.result.verdict ≡ Good = c.in-Good.is in
     let e = c.put_echo-length.ensures in
-    allowed (write_sent own true c.args.meter c.args.frame.now c.args.buffer.now c.requires.frame_value_2 w.result w.ensures c.if-address-eq-BROADCAST.false Good good _ _ e.0 e.1)
+    allowed (write_sent own true c.args.meter c.args.frame.now c.args.buffer.now c.requires.frame_value_2 w.result w.ensures c.if-address-eq-BROADCAST.false Good good _ _ e.value e.buffer_after)
 
 pub returns-in-Wrong : goal.returns-in-Wrong
 returns-in-Wrong c =
     let w = c.write-written in
-    let told = c.verdict.given in
-    let code = told.0.0 in
-    let wrong : w.result.verdict ≡ Wrong code = told.1 in
+    let code = c.in-Wrong.code in
+    let wrong : w.result.verdict ≡ Wrong code = c.in-Wrong.is in
     let e = c.put_error-length.ensures in
-    allowed (write_sent own true c.args.meter c.args.frame.now c.args.buffer.now c.requires.frame_value_2 w.result w.ensures c.if-address-eq-BROADCAST.false (Wrong code) wrong _ _ e.0 e.1)
+    allowed (write_sent own true c.args.meter c.args.frame.now c.args.buffer.now c.requires.frame_value_2 w.result w.ensures c.if-address-eq-BROADCAST.false (Wrong code) wrong _ _ e.value e.buffer_after)

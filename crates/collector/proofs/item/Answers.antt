@@ -28,13 +28,13 @@ item_at-it-requires c =
 pub value_at-value-requires : goal.value_at-value-requires
 value_at-value-requires c =
     let below : c.args.index < length (items c.args.asked.now) = omega (arith, items_length c.args.asked.now) in
-    let found : Known (items c.args.asked.now) c.args.reply.now c.args.index c.place-at.result c.item_at-it.result = known (items c.args.asked.now) c.args.reply.now c.requires.0 c.requires.1 c.args.index _ _ below c.place-at.ensures c.item_at-it.ensures in
+    let found : Known (items c.args.asked.now) c.args.reply.now c.args.index c.place-at.result c.item_at-it.result = known (items c.args.asked.now) c.args.reply.now c.requires.t c.requires.asked_in_bounds c.args.index _ _ below c.place-at.ensures c.item_at-it.ensures in
     let k = found in (k.room, (k.narrow.some, k.narrow.few))
 
 pub of-requires : goal.of-requires
 of-requires c =
     let below : c.args.index < length (items c.args.asked.now) = omega (arith, items_length c.args.asked.now) in
-    let found : Known (items c.args.asked.now) c.args.reply.now c.args.index c.place-at.result c.item_at-it.result = known (items c.args.asked.now) c.args.reply.now c.requires.0 c.requires.1 c.args.index _ _ below c.place-at.ensures c.item_at-it.ensures in
+    let found : Known (items c.args.asked.now) c.args.reply.now c.args.index c.place-at.result c.item_at-it.result = known (items c.args.asked.now) c.args.reply.now c.requires.t c.requires.asked_in_bounds c.args.index _ _ below c.place-at.ensures c.item_at-it.ensures in
     let k = found in
     let bytes = c.shared_slice_known-2-1.given in
     record { it_value = (k.shapely, k.means); value_bound = rw c.value_at-value.ensures (value_fits c.args.reply.now (λ i. omega (arith, bytes i)) c.args.order c.item_at-it.result.words c.place-at.result) }

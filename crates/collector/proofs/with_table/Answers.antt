@@ -12,47 +12,42 @@ use Rattle.collector.specs.Collector.{item_of, on_data, collector_in}
 use Rattle.collector.proofs.Parts.{DataPart, data_part}
 use borrow.Author.Rules.{rules}
 use Rattle.collector.proofs.with_table.Goals as goal
-use Rattle.collector.proofs.with_table.Goals.{Start}
-
--- how it goes on from there
-abbrev going : Start → Judgement → Answer
-going s j = on_data (view_of s.args.table.now s.args.reach) j (λ its. item_of s.args.plate.order (t_of s.args.plate.ratios) its s.args.reply.now s.args.index)
 
 pub judge-judged-requires : goal.judge-judged-requires
 judge-judged-requires c = c.requires
 
 pub part-asked-requires : goal.part-asked-requires
 part-asked-requires c =
-    let found : (judged_in (view_of c.args.table.now c.args.reach) c.args.request.now c.args.reply.now c.args.plate.ratios) ≡ Items c.judged.given.0.0 c.judged.given.0.1.0 = sym c.judge-judged.ensures ∙ c.judged.given.1 in
-    let part : DataPart c.args.table.now c.args.reach c.args.reply.now c.judged.given.0.0 c.judged.given.0.1.0 = data_part c.args.table.now c.args.reach c.requires c.args.request.now c.args.reply.now c.args.plate.ratios _ _ found in
+    let found : (judged_in (view_of c.args.table.now c.args.reach) c.args.request.now c.args.reply.now c.args.plate.ratios) ≡ Items c.in-Items.first c.in-Items.count = sym c.judge-judged.ensures ∙ c.in-Items.is in
+    let part : DataPart c.args.table.now c.args.reach c.args.reply.now c.in-Items.first c.in-Items.count = data_part c.args.table.now c.args.reach c.requires c.args.request.now c.args.reply.now c.args.plate.ratios _ _ found in
     part.inside
 
 pub item-requires : goal.item-requires
 item-requires c =
-    let found : (judged_in (view_of c.args.table.now c.args.reach) c.args.request.now c.args.reply.now c.args.plate.ratios) ≡ Items c.judged.given.0.0 c.judged.given.0.1.0 = sym c.judge-judged.ensures ∙ c.judged.given.1 in
-    let part : DataPart c.args.table.now c.args.reach c.args.reply.now c.judged.given.0.0 c.judged.given.0.1.0 = data_part c.args.table.now c.args.reach c.requires c.args.request.now c.args.reply.now c.args.plate.ratios _ _ found in
+    let found : (judged_in (view_of c.args.table.now c.args.reach) c.args.request.now c.args.reply.now c.args.plate.ratios) ≡ Items c.in-Items.first c.in-Items.count = sym c.judge-judged.ensures ∙ c.in-Items.is in
+    let part : DataPart c.args.table.now c.args.reach c.args.reply.now c.in-Items.first c.in-Items.count = data_part c.args.table.now c.args.reach c.requires c.args.request.now c.args.reply.now c.args.plate.ratios _ _ found in
     let p = part in
-    rw c.part-asked.ensures ((p.shapely, p.means), p.words)
+    rw c.part-asked.ensures (record { t = (p.shapely, p.means); asked_in_bounds = p.words })
 
 pub returns-in-Items : goal.returns-in-Items
 unfolding collector_in
 returns-in-Items c =
-    let goes : going c (judged_in (view_of c.args.table.now c.args.reach) c.args.request.now c.args.reply.now c.args.plate.ratios) ≡ collector_in (view_of c.args.table.now c.args.reach) c.args.request.now c.args.reply.now c.args.plate c.args.index = refl in
-    let found : (judged_in (view_of c.args.table.now c.args.reach) c.args.request.now c.args.reply.now c.args.plate.ratios) ≡ Items c.judged.given.0.0 c.judged.given.0.1.0 = sym c.judge-judged.ensures ∙ c.judged.given.1 in
-    let part : DataPart c.args.table.now c.args.reach c.args.reply.now c.judged.given.0.0 c.judged.given.0.1.0 = data_part c.args.table.now c.args.reach c.requires c.args.request.now c.args.reply.now c.args.plate.ratios _ _ found in
+    let goes : (λ (j : Judgement). on_data (view_of c.args.table.now c.args.reach) j (λ its. item_of c.args.plate.order (t_of c.args.plate.ratios) its c.args.reply.now c.args.index)) (judged_in (view_of c.args.table.now c.args.reach) c.args.request.now c.args.reply.now c.args.plate.ratios) ≡ collector_in (view_of c.args.table.now c.args.reach) c.args.request.now c.args.reply.now c.args.plate c.args.index = refl in
+    let found : (judged_in (view_of c.args.table.now c.args.reach) c.args.request.now c.args.reply.now c.args.plate.ratios) ≡ Items c.in-Items.first c.in-Items.count = sym c.judge-judged.ensures ∙ c.in-Items.is in
+    let part : DataPart c.args.table.now c.args.reach c.args.reply.now c.in-Items.first c.in-Items.count = data_part c.args.table.now c.args.reach c.requires c.args.request.now c.args.reply.now c.args.plate.ratios _ _ found in
     c.item.ensures
     ∙ ap₂ (λ (t : ℕ) (its : List Item). item_of c.args.plate.order t its c.args.reply.now c.args.index) c.tenths.ensures (ap items c.part-asked.ensures ∙ part.holds)
-    ∙ ap (going c) (sym found)
+    ∙ ap (λ (j : Judgement). on_data (view_of c.args.table.now c.args.reach) j (λ its. item_of c.args.plate.order (t_of c.args.plate.ratios) its c.args.reply.now c.args.index)) (sym found)
     ∙ goes
 
 pub returns-in-Error : goal.returns-in-Error
 unfolding collector_in
 returns-in-Error c =
-    let goes : going c (judged_in (view_of c.args.table.now c.args.reach) c.args.request.now c.args.reply.now c.args.plate.ratios) ≡ collector_in (view_of c.args.table.now c.args.reach) c.args.request.now c.args.reply.now c.args.plate c.args.index = refl in
-    ap (going c) (sym (sym c.judge-judged.ensures ∙ c.judged2.given.1)) ∙ goes
+    let goes : (λ (j : Judgement). on_data (view_of c.args.table.now c.args.reach) j (λ its. item_of c.args.plate.order (t_of c.args.plate.ratios) its c.args.reply.now c.args.index)) (judged_in (view_of c.args.table.now c.args.reach) c.args.request.now c.args.reply.now c.args.plate.ratios) ≡ collector_in (view_of c.args.table.now c.args.reach) c.args.request.now c.args.reply.now c.args.plate c.args.index = refl in
+    ap (λ (j : Judgement). on_data (view_of c.args.table.now c.args.reach) j (λ its. item_of c.args.plate.order (t_of c.args.plate.ratios) its c.args.reply.now c.args.index)) (sym (sym c.judge-judged.ensures ∙ c.in-Error.is)) ∙ goes
 
 pub returns-in-Refused : goal.returns-in-Refused
 unfolding collector_in
 returns-in-Refused c =
-    let goes : going c (judged_in (view_of c.args.table.now c.args.reach) c.args.request.now c.args.reply.now c.args.plate.ratios) ≡ collector_in (view_of c.args.table.now c.args.reach) c.args.request.now c.args.reply.now c.args.plate c.args.index = refl in
-    ap (going c) (sym (sym c.judge-judged.ensures ∙ c.judged3.given.1)) ∙ goes
+    let goes : (λ (j : Judgement). on_data (view_of c.args.table.now c.args.reach) j (λ its. item_of c.args.plate.order (t_of c.args.plate.ratios) its c.args.reply.now c.args.index)) (judged_in (view_of c.args.table.now c.args.reach) c.args.request.now c.args.reply.now c.args.plate.ratios) ≡ collector_in (view_of c.args.table.now c.args.reach) c.args.request.now c.args.reply.now c.args.plate c.args.index = refl in
+    ap (λ (j : Judgement). on_data (view_of c.args.table.now c.args.reach) j (λ its. item_of c.args.plate.order (t_of c.args.plate.ratios) its c.args.reply.now c.args.index)) (sym (sym c.judge-judged.ensures ∙ c.in-Refused.is)) ∙ goes

@@ -11,7 +11,6 @@ use Rattle.registers.specs.Shown.{shown_of}
 use Rattle.board.specs.Reads.{items_sent, data_reply}
 use Rattle.board.proofs.Sent.{length_items}
 use Rattle.board.proofs.reads.put_data.Goals as goal
-use Rattle.board.proofs.reads.put_data.Goals.{Start}
 
 pub bounds-frame-0 : goal.bounds-frame-0
 bounds-frame-0 c = omega (arith, c.requires.frame_len.0)
@@ -37,26 +36,40 @@ bounds-buffer-2 c = simp length-set (omega arith)
 pub put_items-end-requires : goal.put_items-end-requires
 put_items-end-requires c = record { t = c.requires.t; m_value = c.requires.m_value; asked_in_bounds = simp length-set (omega (arith, c.requires.frame_len.1, c.requires.frame_bound.0, c.requires.frame_bound.1)) }
 
--- the reply without its CRC, by its word number
-abbrev bytes_for : Start → ℕ → List ℕ
-bytes_for s n =
-    address_of s.args.frame.now ∷
-    function_of s.args.frame.now ∷
-    2 * n ∷
-    items_sent s.args.m.given.order (shown_of s.args.m) (items s.args.asked.now)
-
 pub overflow_add-result : goal.overflow_add-result
 overflow_add-result c =
-    let room : c.put_items-end.result + 2 ≤ length c.args.buffer.now = omega (arith, c.put_items-end.ensures.value, c.requires.1.1.0.1, c.requires.1.1.1.0, c.requires.1.1.1.1) in
+    let room : c.put_items-end.result + 2 ≤ length c.args.buffer.now = omega (arith, c.put_items-end.ensures.value, c.requires.frame_len.1, c.requires.frame_bound.0, c.requires.frame_bound.1) in
     omega (arith, room)
 
 pub returns : goal.returns
 returns c =
-    let long : length (bytes_for c (word_number c.args.frame.now)) ≡ c.put_items-end.result = omega (arith, length_items c.args.m.given.order (shown_of c.args.m) (items c.args.asked.now), c.put_items-end.ensures.value) in
-    let room : c.put_items-end.result + 2 ≤ length c.args.buffer.now = omega (arith, c.put_items-end.ensures.value, c.requires.1.1.0.1, c.requires.1.1.1.0, c.requires.1.1.1.1) in
-    let stored : c.put_items-end.new.1.1.0 ≡ sets c.args.buffer.now 0 (bytes_for c (word_number c.args.frame.now)) = c.put_items-end.ensures.buffer_after ∙ ap (λ (n : ℕ). sets c.args.buffer.now 0 (bytes_for c n)) c.word_at.ensures in
-    record { value = omega (arith, long, length_sealed (bytes_for c (word_number c.args.frame.now))); buffer_after = seals c.args.buffer.now (bytes_for c (word_number c.args.frame.now)) c.put_items-end.result _ _ _ long room c.put.ensures stored }
+    let long : length ((λ (n : ℕ). address_of c.args.frame.now ∷
+    function_of c.args.frame.now ∷
+    2 * n ∷
+    items_sent c.args.m.given.order (shown_of c.args.m) (items c.args.asked.now)) (word_number c.args.frame.now)) ≡ c.put_items-end.result = omega (arith, length_items c.args.m.given.order (shown_of c.args.m) (items c.args.asked.now), c.put_items-end.ensures.value) in
+    let room : c.put_items-end.result + 2 ≤ length c.args.buffer.now = omega (arith, c.put_items-end.ensures.value, c.requires.frame_len.1, c.requires.frame_bound.0, c.requires.frame_bound.1) in
+    let stored : c.put_items-end.new.buffer ≡ sets c.args.buffer.now 0 ((λ (n : ℕ). address_of c.args.frame.now ∷
+    function_of c.args.frame.now ∷
+    2 * n ∷
+    items_sent c.args.m.given.order (shown_of c.args.m) (items c.args.asked.now)) (word_number c.args.frame.now)) = c.put_items-end.ensures.buffer_after ∙ ap (λ (n : ℕ). sets c.args.buffer.now 0 ((λ (n : ℕ). address_of c.args.frame.now ∷
+    function_of c.args.frame.now ∷
+    2 * n ∷
+    items_sent c.args.m.given.order (shown_of c.args.m) (items c.args.asked.now)) n)) c.word_at.ensures in
+    record {
+      value = omega (
+        arith,
+        long,
+        length_sealed ((λ (n : ℕ). address_of c.args.frame.now ∷
+            function_of c.args.frame.now ∷
+            2 * n ∷
+            items_sent c.args.m.given.order (shown_of c.args.m) (items c.args.asked.now)) (word_number c.args.frame.now)),
+      );
+      buffer_after = seals c.args.buffer.now ((λ (n : ℕ). address_of c.args.frame.now ∷
+          function_of c.args.frame.now ∷
+          2 * n ∷
+          items_sent c.args.m.given.order (shown_of c.args.m) (items c.args.asked.now)) (word_number c.args.frame.now)) c.put_items-end.result _ _ _ long room c.put.ensures stored;
+    }
 
 pub shape_of-buffer : goal.shape_of-buffer
 shape_of-buffer c =
-    ap length (returns c).1 ∙ length-sets c.args.buffer.now 0 (data_reply c.args.frame.now (items_sent c.args.m.given.order (shown_of c.args.m) (items c.args.asked.now)))
+    ap length (returns c).buffer_after ∙ length-sets c.args.buffer.now 0 (data_reply c.args.frame.now (items_sent c.args.m.given.order (shown_of c.args.m) (items c.args.asked.now)))

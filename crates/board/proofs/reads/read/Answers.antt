@@ -25,11 +25,13 @@ part_lent false reach e = own_lent reach e
 
 pub with_table-requires : goal.with_table-requires
 unfolding directory flat
-with_table-requires c = (part_lent c.args.tenant _ c.reach_for.ensures, c.requires)
+with_table-requires c =
+    let r = c.requires in
+    record { lent = part_lent c.args.tenant _ c.reach_for.ensures; m_value = r.m_value; in_bounds = r.in_bounds; in_bounds_2 = r.in_bounds_2 }
 
 pub returns : goal.returns
 unfolding directory flat
 returns c =
     let e = c.with_table.ensures in
     let same = ap (λ (v : View). read_reply v c.args.m.given.order (shown_of c.args.m) c.args.frame.now) (part_view c.args.tenant _ c.reach_for.ensures) in
-    record { value = e.0 ∙ ap length same; buffer_after = e.1 ∙ ap (sets c.args.buffer.now 0) same }
+    record { value = e.value ∙ ap length same; buffer_after = e.buffer_after ∙ ap (sets c.args.buffer.now 0) same }

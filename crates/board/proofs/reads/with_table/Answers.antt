@@ -27,30 +27,31 @@ put_error-requires c = (c.requires.in_bounds.0, c.requires.in_bounds.1, c.requir
 
 pub part-asked-requires : goal.part-asked-requires
 part-asked-requires c =
-    let found : read_in (view_of c.args.table.now c.args.reach) c.args.frame.now ≡ Items c.first.given.0.0 c.first.given.0.1.0 = sym c.read_in.ensures ∙ c.first.given.1 in
-    let asked : AskedPart c.args.table.now c.args.reach c.args.frame.now c.first.given.0.0 c.first.given.0.1.0 = asked_part c.args.table.now c.args.reach c.requires.lent found in
+    let found : read_in (view_of c.args.table.now c.args.reach) c.args.frame.now ≡ Items c.in-Items.first c.in-Items.count = sym c.read_in.ensures ∙ c.in-Items.is in
+    let asked : AskedPart c.args.table.now c.args.reach c.args.frame.now c.in-Items.first c.in-Items.count = asked_part c.args.table.now c.args.reach c.requires.lent found in
     asked.inside
 
 pub put_data-requires : goal.put_data-requires
 put_data-requires c =
-    let found : read_in (view_of c.args.table.now c.args.reach) c.args.frame.now ≡ Items c.first.given.0.0 c.first.given.0.1.0 = sym c.read_in.ensures ∙ c.first.given.1 in
-    let asked : AskedPart c.args.table.now c.args.reach c.args.frame.now c.first.given.0.0 c.first.given.0.1.0 = asked_part c.args.table.now c.args.reach c.requires.lent found in
+    let found : read_in (view_of c.args.table.now c.args.reach) c.args.frame.now ≡ Items c.in-Items.first c.in-Items.count = sym c.read_in.ensures ∙ c.in-Items.is in
+    let asked : AskedPart c.args.table.now c.args.reach c.args.frame.now c.in-Items.first c.in-Items.count = asked_part c.args.table.now c.args.reach c.requires.lent found in
     let a = asked in
-    rw c.part-asked.ensures (a.narrow, (c.requires.1.0, ((a.long, a.sends), (a.room, c.requires.1.1.1))))
+    rw c.part-asked.ensures (record { t = a.narrow; m_value = c.requires.m_value; frame_len = (a.long, a.sends); frame_bound = (a.room, c.requires.in_bounds_2) })
 
 pub returns-in-Error : goal.returns-in-Error
 returns-in-Error c =
     let j = c.read_in.ensures in
-    let told = c.code.given in
-    let code = told.0.0 in
-    let wrong : read_in (view_of c.args.table.now c.args.reach) c.args.frame.now ≡ Error code = sym j ∙ told.1 in
-    replied (view_of c.args.table.now c.args.reach) c.args.m.given.order (shown_of c.args.m) c.args.frame.now c.args.buffer.now (Error code) wrong c.put_error.ensures
+    let code = c.in-Error.code in
+    let wrong : read_in (view_of c.args.table.now c.args.reach) c.args.frame.now ≡ Error code = sym j ∙ c.in-Error.is in
+    let e = c.put_error.ensures in
+    let r = replied (view_of c.args.table.now c.args.reach) c.args.m.given.order (shown_of c.args.m) c.args.frame.now c.args.buffer.now (Error code) wrong (e.value, e.buffer_after) in
+    record { value = r.0; buffer_after = r.1 }
 
 pub returns-in-Items : goal.returns-in-Items
 returns-in-Items c =
-    let found : read_in (view_of c.args.table.now c.args.reach) c.args.frame.now ≡ Items c.first.given.0.0 c.first.given.0.1.0 = sym c.read_in.ensures ∙ c.first.given.1 in
-    let asked : AskedPart c.args.table.now c.args.reach c.args.frame.now c.first.given.0.0 c.first.given.0.1.0 = asked_part c.args.table.now c.args.reach c.requires.lent found in
-    let g = c.first.given.0 in
+    let found : read_in (view_of c.args.table.now c.args.reach) c.args.frame.now ≡ Items c.in-Items.first c.in-Items.count = sym c.read_in.ensures ∙ c.in-Items.is in
+    let asked : AskedPart c.args.table.now c.args.reach c.args.frame.now c.in-Items.first c.in-Items.count = asked_part c.args.table.now c.args.reach c.requires.lent found in
     let e = c.put_data.ensures in
     let same = ap (λ (its : List Item). data_reply c.args.frame.now (items_sent c.args.m.given.order (shown_of c.args.m) its)) (ap items c.part-asked.ensures ∙ asked.holds) in
-    replied (view_of c.args.table.now c.args.reach) c.args.m.given.order (shown_of c.args.m) c.args.frame.now c.args.buffer.now (Items g.0 g.1.0) found (e.0 ∙ ap length same, e.1 ∙ ap (sets c.args.buffer.now 0) same)
+    let r = replied (view_of c.args.table.now c.args.reach) c.args.m.given.order (shown_of c.args.m) c.args.frame.now c.args.buffer.now (Items c.in-Items.first c.in-Items.count) found (e.value ∙ ap length same, e.buffer_after ∙ ap (sets c.args.buffer.now 0) same) in
+    record { value = r.0; buffer_after = r.1 }

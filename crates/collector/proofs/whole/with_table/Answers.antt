@@ -19,21 +19,21 @@ judge-judged-requires c = c.requires
 
 pub part-asked-requires : goal.part-asked-requires
 part-asked-requires c =
-    let found : (judged_in (view_of c.args.table.now c.args.reach) c.args.request.now c.args.reply.now c.args.plate.ratios) ≡ Items c.judged.given.0.0 c.judged.given.0.1.0 = sym c.judge-judged.ensures ∙ c.judged.given.1 in
-    let part : DataPart c.args.table.now c.args.reach c.args.reply.now c.judged.given.0.0 c.judged.given.0.1.0 = data_part c.args.table.now c.args.reach c.requires c.args.request.now c.args.reply.now c.args.plate.ratios _ _ found in
+    let found : (judged_in (view_of c.args.table.now c.args.reach) c.args.request.now c.args.reply.now c.args.plate.ratios) ≡ Items c.in-Items.first c.in-Items.count = sym c.judge-judged.ensures ∙ c.in-Items.is in
+    let part : DataPart c.args.table.now c.args.reach c.args.reply.now c.in-Items.first c.in-Items.count = data_part c.args.table.now c.args.reach c.requires c.args.request.now c.args.reply.now c.args.plate.ratios _ _ found in
     part.inside
 
 pub fill-requires : goal.fill-requires
 fill-requires c =
-    let found : (judged_in (view_of c.args.table.now c.args.reach) c.args.request.now c.args.reply.now c.args.plate.ratios) ≡ Items c.judged.given.0.0 c.judged.given.0.1.0 = sym c.judge-judged.ensures ∙ c.judged.given.1 in
-    let part : DataPart c.args.table.now c.args.reach c.args.reply.now c.judged.given.0.0 c.judged.given.0.1.0 = data_part c.args.table.now c.args.reach c.requires c.args.request.now c.args.reply.now c.args.plate.ratios _ _ found in
+    let found : (judged_in (view_of c.args.table.now c.args.reach) c.args.request.now c.args.reply.now c.args.plate.ratios) ≡ Items c.in-Items.first c.in-Items.count = sym c.judge-judged.ensures ∙ c.in-Items.is in
+    let part : DataPart c.args.table.now c.args.reach c.args.reply.now c.in-Items.first c.in-Items.count = data_part c.args.table.now c.args.reach c.requires c.args.request.now c.args.reply.now c.args.plate.ratios _ _ found in
     let p = part in
-    rw c.part-asked.ensures ((p.shapely, p.means), (p.words, p.few))
+    rw c.part-asked.ensures (record { t = (p.shapely, p.means); asked_in_bounds = (p.words, p.few) })
 
 pub returns-in-Items : goal.returns-in-Items
 returns-in-Items c =
-    let found : (judged_in (view_of c.args.table.now c.args.reach) c.args.request.now c.args.reply.now c.args.plate.ratios) ≡ Items c.judged.given.0.0 c.judged.given.0.1.0 = sym c.judge-judged.ensures ∙ c.judged.given.1 in
-    let part : DataPart c.args.table.now c.args.reach c.args.reply.now c.judged.given.0.0 c.judged.given.0.1.0 = data_part c.args.table.now c.args.reach c.requires c.args.request.now c.args.reply.now c.args.plate.ratios _ _ found in
+    let found : (judged_in (view_of c.args.table.now c.args.reach) c.args.request.now c.args.reply.now c.args.plate.ratios) ≡ Items c.in-Items.first c.in-Items.count = sym c.judge-judged.ensures ∙ c.in-Items.is in
+    let part : DataPart c.args.table.now c.args.reach c.args.reply.now c.in-Items.first c.in-Items.count = data_part c.args.table.now c.args.reach c.requires c.args.request.now c.args.reply.now c.args.plate.ratios _ _ found in
     let a = c.args in
     let by : ℕ → List Item → Rows = λ t its. filled_by (in_turn (length its) (item_of a.plate.order t its a.reply.now)) a.values.now a.kinds.now in
     let same = ap₂ by c.tenths.ensures (ap items c.part-asked.ensures ∙ part.holds) ∙ sym (whole_items (view_of c.args.table.now c.args.reach) a.request.now a.reply.now a.plate a.values.now a.kinds.now _ _ found part.seen) in
@@ -42,9 +42,9 @@ returns-in-Items c =
 pub returns-in-Error : goal.returns-in-Error
 returns-in-Error c =
     let a = c.args in
-    allowed (sym (whole_coded (view_of c.args.table.now c.args.reach) a.request.now a.reply.now a.plate a.values.now a.kinds.now _ (sym c.judge-judged.ensures ∙ c.judged2.given.1)))
+    allowed (sym (whole_coded (view_of c.args.table.now c.args.reach) a.request.now a.reply.now a.plate a.values.now a.kinds.now _ (sym c.judge-judged.ensures ∙ c.in-Error.is)))
 
 pub returns-in-Refused : goal.returns-in-Refused
 returns-in-Refused c =
     let a = c.args in
-    allowed (sym (whole_refused (view_of c.args.table.now c.args.reach) a.request.now a.reply.now a.plate a.values.now a.kinds.now _ (sym c.judge-judged.ensures ∙ c.judged3.given.1)))
+    allowed (sym (whole_refused (view_of c.args.table.now c.args.reach) a.request.now a.reply.now a.plate a.values.now a.kinds.now _ (sym c.judge-judged.ensures ∙ c.in-Refused.is)))
