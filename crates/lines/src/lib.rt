@@ -17,6 +17,7 @@ pub enum Line {
 }
 
 // Where the line that begins at `from` ends: at the next line feed, or with the input.
+#[tactic(auto, using(crate::proofs::Ends::ends))]
 pub fn line_end(input: &[u8], from: usize) -> usize
     ensures { result ≡ from + line_length (drop from input.now) }
 {

@@ -2,7 +2,7 @@
 -- is below 10 Wh or above 1,000,000. What callers know of a step are these laws and no more.
 use mathlib.Core.Path.{◌≡◌, refl, sym, ap, ◌∙◌}
 use mathlib.Core.List.{List, [], ◌∷◌}
-use Prim.Native.Nat.{ℕ, zero, suc, ◌≤◌}
+use Prim.Native.Nat.{ℕ, zero, suc, ◌≤◌, ◌<◌}
 use mathlib.Core.Bool.{Bool, true, false, ◌&&◌, and-eq-true_iff, false≢true}
 use native.Mathlib.Omega.{arith}
 use borrow.Author.Tests.{ltb-true, ltb-false, leb-true, eqb-true, lt-ltb, le-leb}
@@ -88,43 +88,33 @@ of_row t k h = let o = one_row 0 steps own t (omega arith) in o.step ∙ ap (λ 
 between : (t first last : ℕ) → first ≤ t → t ≤ last → (leb first t && leb t last) ≡ true
 between t first last low high = (and-eq-true_iff (leb first t) (leb t last)).1 (le-leb first t low, le-leb t last high)
 
+-- row by row, as `energy_step` is proved by them
+pub row_10 : (t : ℕ) → t < 100 → step_of t ≡ 10
+row_10 t top = of_row t 0 (lt-ltb t 100 top)
+
+pub row_100 : (t : ℕ) → 100 ≤ t → t < 1000 → step_of t ≡ 100
+row_100 t from top = of_row t 1 (between t 100 999 from (omega (arith, top)))
+
+pub row_1000 : (t : ℕ) → 1000 ≤ t → t < 10000 → step_of t ≡ 1000
+row_1000 t from top = of_row t 2 (between t 1000 9999 from (omega (arith, top)))
+
+pub row_10000 : (t : ℕ) → 10000 ≤ t → t < 100000 → step_of t ≡ 10000
+row_10000 t from top = of_row t 3 (between t 10000 99999 from (omega (arith, top)))
+
+pub row_100000 : (t : ℕ) → 100000 ≤ t → t < 1000000 → step_of t ≡ 100000
+row_100000 t from top = of_row t 4 (between t 100000 999999 from (omega (arith, top)))
+
+pub row_1000000 : (t : ℕ) → 1000000 ≤ t → step_of t ≡ 1000000
+row_1000000 t from = of_row t 5 (le-leb 1000000 t from)
+
+pub ruleset rows = (row_10, row_100, row_1000, row_10000, row_100000, row_1000000)
+
 pub step_rows : StepRows
 step_rows = record {
-  row_10 = λ t top. of_row t 0 (lt-ltb t 100 top);
-  row_100 = λ t from top. of_row t 1 (between t 100 999 from (omega (arith, top)));
-  row_1000 = λ t from top. of_row t 2 (between t 1000 9999 from (omega (arith, top)));
-  row_10000 = λ t from top. of_row t 3 (between t 10000 99999 from (omega (arith, top)));
-  row_100000 = λ t from top. of_row t 4 (between t 100000 999999 from (omega (arith, top)));
-  row_1000000 = λ t from. of_row t 5 (le-leb 1000000 t from);
+  row_10 = row_10;
+  row_100 = row_100;
+  row_1000 = row_1000;
+  row_10000 = row_10000;
+  row_100000 = row_100000;
+  row_1000000 = row_1000000;
 }
-
--- ---- the bounds of all steps
-
--- neither below the first nor above the last, by one computed test
-bounds : ℕ → Bool
-bounds step = leb 10 step && leb step 1000000
-
-bounded : List Row → Bool
-bounded [] = true
-bounded (row range step ∷ rows) = bounds step && bounded rows
-
-bounded_at : (rows : List Row) → bounded rows ≡ true → (t k : ℕ) → in_row (row_at rows k) t ≡ true → bounds (row_step (row_at rows k)) ≡ true
-unfolding bounded
-bounded_at [] ok t k h = let z : ⊥ = omega (arith, ltb-true t 0 h) in absurd z
-bounded_at (row range step ∷ rows) ok t zero h = ((and-eq-true_iff (bounds step) _).0 ok).0
-bounded_at (row range step ∷ rows) ok t (suc k) h = bounded_at rows ((and-eq-true_iff (bounds step) _).0 ok).1 t k h
-
-within : (t : ℕ) → (10 ≤ step_of t) × (step_of t ≤ 1000000)
-unfolding step_of bounds bounded
-within t =
-    let o = one_row 0 steps own t (omega arith) in
-    let b = (and-eq-true_iff (leb 10 (step_of t)) _).0 (ap bounds o.step ∙ bounded_at steps refl t o.place o.its) in
-    (leb-true 10 (step_of t) b.0, leb-true (step_of t) 1000000 b.1)
-
--- what callers may know of the step
-pub record StepLaws : Type 0 where
-  pub least : (t : ℕ) → 10 ≤ step_of t
-  pub most : (t : ℕ) → step_of t ≤ 1000000
-
-pub step_laws : StepLaws
-step_laws = record { least = λ t. (within t).0; most = λ t. (within t).1 }

@@ -75,6 +75,7 @@ pub fn power_limit(t: u32) -> u64
 
 // The Wh that one count of an energy register stands for: paper 01's table, its last row as request 2 mends it. T is in
 // tenths: the printed "10 ≤ KTA*KTV < 100" is the row from 100 to 999.
+#[tactic(auto, using(crate::proofs::Steps::rows))]
 pub fn energy_step(t: u32) -> u32
     ensures { result ≡ step_of t }
 {
