@@ -1,5 +1,5 @@
 -- Paper 01, "How tight the contracts are": why the wrong meters and collectors that it names are shut out. That a meter which
--- refuses or stays silent throughout is shut out, is `EveryItemPolled.data-sent` for frames and `takes` here for samples.
+-- refuses or stays silent throughout is shut out, is `EveryItemPolled.data_sent` for frames and `takes` here for samples.
 use Rattle.std.specs.Prelude.{◌≡◌, ℕ, ◌+◌, ◌*◌, ◌/◌, ◌≤◌, ◌<◌, true, List, [], ◌∷◌, pos, get_or}
 use Rattle.ratio.specs.declared.Ratios.{Ratios}
 use Rattle.ratio.specs.Ratios.{t_of}
