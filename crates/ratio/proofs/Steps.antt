@@ -118,3 +118,34 @@ step_rows = record {
   row_100000 = row_100000;
   row_1000000 = row_1000000;
 }
+
+-- ---- the bounds of all steps
+
+-- neither below the first nor above the last, by one computed test
+bounds : ℕ → Bool
+bounds step = leb 10 step && leb step 1000000
+
+bounded : List Row → Bool
+bounded [] = true
+bounded (row range step ∷ rows) = bounds step && bounded rows
+
+bounded_at : (rows : List Row) → bounded rows ≡ true → (t k : ℕ) → in_row (row_at rows k) t ≡ true → bounds (row_step (row_at rows k)) ≡ true
+unfolding bounded
+bounded_at [] ok t k h = let z : ⊥ = omega (arith, ltb-true t 0 h) in absurd z
+bounded_at (row range step ∷ rows) ok t zero h = ((and-eq-true_iff (bounds step) _).0 ok).0
+bounded_at (row range step ∷ rows) ok t (suc k) h = bounded_at rows ((and-eq-true_iff (bounds step) _).0 ok).1 t k h
+
+within : (t : ℕ) → (10 ≤ step_of t) × (step_of t ≤ 1000000)
+unfolding step_of bounds bounded
+within t =
+    let o = one_row 0 steps own t (omega arith) in
+    let b = (and-eq-true_iff (leb 10 (step_of t)) _).0 (ap bounds o.step ∙ bounded_at steps refl t o.place o.its) in
+    (leb-true 10 (step_of t) b.0, leb-true (step_of t) 1000000 b.1)
+
+-- what callers may know of the step
+pub record StepLaws : Type 0 where
+  pub least : (t : ℕ) → 10 ≤ step_of t
+  pub most : (t : ℕ) → step_of t ≤ 1000000
+
+pub step_laws : StepLaws
+step_laws = record { least = λ t. (within t).0; most = λ t. (within t).1 }
