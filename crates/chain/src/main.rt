@@ -5,10 +5,11 @@
 
 mod tell;
 
-ghost use Rattle.std.specs.Prelude.{◌≡◌, ◌≤◌, length};
+ghost use Rattle.std.specs.Prelude.{◌≡◌, ◌≤◌, length, IfOk};
 
 use board::{Answer, Answered, Given, Meter, Order, Powers, Reply};
 use collector::{Joined, Nameplate, Quantity, Ratios};
+use std::io::{self, Stdout};
 
 const REPLY_ROOM: usize = 256;
 
@@ -33,24 +34,24 @@ const A_SECOND: u64 = (L1 + L2 + L3) as u64;
 
 const SECONDS: u64 = 360;
 
-fn main() {
-    from_samples();
-    large_transformers();
+fn main(rt: HostRuntime) -> io::Result<()> {
+    let out = rt.stdout();
+    from_samples(out)?;
+    large_transformers(out)
 }
 
-fn from_samples() {
+fn from_samples(out: Stdout) -> io::Result<()> {
     let ratios = Ratios { kta: 40, ktv: 10 };
     let new = made(ratios);
     let answer = new.answer;
     if let Answer::Refused(reason) = answer {
-        tell::refused(reason);
-        return;
+        return tell::refused(out, reason);
     }
-    tell::meter(ratios);
-    let after = six_minutes(new.meter);
+    tell::meter(out, ratios)?;
+    let after = six_minutes(out, new.meter)?;
     let exact = after.accepted * A_SECOND;
-    tell::exact(after.accepted, exact);
-    three_places(after.meter, ratios, exact / Meter::ONE_WH);
+    tell::exact(out, after.accepted, exact)?;
+    three_places(out, after.meter, ratios, exact / Meter::ONE_WH)
 }
 
 // A new meter of address 1. Paper 01's meters send the upper word first.
@@ -70,8 +71,8 @@ struct Sampled {
 }
 
 // The board hands its meter a sample a second, up to the first that is refused.
-fn six_minutes(new: Meter) -> Sampled
-    ensures { result.accepted ≤ 360 }
+fn six_minutes(out: Stdout, new: Meter) -> io::Result<Sampled>
+    ensures { IfOk result (λ r. r.accepted ≤ 360) }
 {
     let mut sample = new.latest;
     let p = Powers {
@@ -86,106 +87,125 @@ fn six_minutes(new: Meter) -> Sampled
         let answered = meter.after(sample);
         let answer = answered.answer;
         if let Answer::Refused(reason) = answer {
-            tell::refused(reason);
-            return Sampled { meter, accepted };
+            tell::refused(out, reason)?;
+            return Ok(Sampled { meter, accepted });
         }
         meter = answered.meter;
         accepted += 1;
     }
-    Sampled { meter, accepted }
+    Ok(Sampled { meter, accepted })
 }
 
 // The last T with a step of 100 kWh, the first with one of 1 MWh, a ratio of 120,000, and the largest T with the largest energy.
-fn large_transformers() {
-    years(2_079, 481, 12_345_678_901_234);
-    years(1_000, 1_000, 12_345_678_901_234);
-    years(1_200, 1_000, 12_345_678_901_234);
-    years(9_999, 9_999, Meter::WH_TOP);
+fn large_transformers(out: Stdout) -> io::Result<()> {
+    years(out, 2_079, 481, 12_345_678_901_234)?;
+    years(out, 1_000, 1_000, 12_345_678_901_234)?;
+    years(out, 1_200, 1_000, 12_345_678_901_234)?;
+    years(out, 9_999, 9_999, Meter::WH_TOP)
 }
 
 // A meter whose +Ea stands where years of samples would have brought it.
-fn years(kta: u16, ktv: u16, wh: u64) {
+fn years(out: Stdout, kta: u16, ktv: u16, wh: u64) -> io::Result<()> {
     let ratios = Ratios { kta, ktv };
     let new = made(ratios);
     let mut meter = new.meter;
     meter.counters.active.positive.wh.0 = wh;
-    tell::years(ratios, wh);
-    three_places(meter, ratios, wh);
+    tell::years(out, ratios, wh)?;
+    three_places(out, meter, ratios, wh)
 }
 
 // Each place, compared with the exact energy in whole Wh.
-fn three_places(meter: Meter, ratios: Ratios, exact: u64) {
-    say::text(b"+Ea from the byte-addressed register\n");
-    register(meter, ratios, &BYTE_REGISTER, exact);
-    say::text(b"+Ea from the word register\n");
-    register(meter, ratios, &WORD_REGISTER, exact);
-    say::text(b"+Ea from the exact table\n");
-    halves(meter, ratios, exact);
+fn three_places(out: Stdout, meter: Meter, ratios: Ratios, exact: u64) -> io::Result<()> {
+    say::text(out, b"+Ea from the byte-addressed register\n")?;
+    register(out, meter, ratios, &BYTE_REGISTER, exact)?;
+    say::text(out, b"+Ea from the word register\n")?;
+    register(out, meter, ratios, &WORD_REGISTER, exact)?;
+    say::text(out, b"+Ea from the exact table\n")?;
+    halves(out, meter, ratios, exact)
 }
 
 // A register's count and the wrap word, joined.
-fn register(meter: Meter, ratios: Ratios, request: &[u8], exact: u64) {
+fn register(
+    out: Stdout,
+    meter: Meter,
+    ratios: Ratios,
+    request: &[u8],
+    exact: u64,
+) -> io::Result<()> {
     let mut buffer = [0u8; REPLY_ROOM];
-    let n = poll(meter, request, &mut buffer);
-    let Quantity::Energy { count, step, wh: _ } = read(request, &buffer[..n], ratios, 0) else {
-        return;
+    let n = poll(out, meter, request, &mut buffer)?;
+    let Quantity::Energy { count, step, wh: _ } = read(out, request, &buffer[..n], ratios, 0)?
+    else {
+        return Ok(());
     };
-    let m = poll(meter, &WRAP_WORD, &mut buffer);
-    let Quantity::Wrap(wrap) = read(&WRAP_WORD, &buffer[..m], ratios, 0) else {
-        return;
+    let m = poll(out, meter, &WRAP_WORD, &mut buffer)?;
+    let Quantity::Wrap(wrap) = read(out, &WRAP_WORD, &buffer[..m], ratios, 0)? else {
+        return Ok(());
     };
-    tell::count(count, step, wrap);
-    load(collector::join(ratios, count, wrap), exact, step as u64);
+    tell::count(out, count, step, wrap)?;
+    load(
+        out,
+        collector::join(ratios, count, wrap),
+        exact,
+        step as u64,
+    )
 }
 
 // Low and High of one reply, joined.
-fn halves(meter: Meter, ratios: Ratios, exact: u64) {
+fn halves(out: Stdout, meter: Meter, ratios: Ratios, exact: u64) -> io::Result<()> {
     let mut buffer = [0u8; REPLY_ROOM];
-    let n = poll(meter, &LOW_AND_HIGH, &mut buffer);
-    let Quantity::Low(low) = read(&LOW_AND_HIGH, &buffer[..n], ratios, 0) else {
-        return;
+    let n = poll(out, meter, &LOW_AND_HIGH, &mut buffer)?;
+    let Quantity::Low(low) = read(out, &LOW_AND_HIGH, &buffer[..n], ratios, 0)? else {
+        return Ok(());
     };
-    let Quantity::High(high) = read(&LOW_AND_HIGH, &buffer[..n], ratios, 1) else {
-        return;
+    let Quantity::High(high) = read(out, &LOW_AND_HIGH, &buffer[..n], ratios, 1)? else {
+        return Ok(());
     };
-    tell::halves(low, high);
-    load(collector::join_halves(low, high), exact, 1);
+    tell::halves(out, low, high)?;
+    load(out, collector::join_halves(low, high), exact, 1)
 }
 
 // The board's answer to a request: gives the length of the reply, which stands in the buffer. A read leaves the meter as it is, so the
 // one handed back is not kept.
-fn poll(meter: Meter, request: &[u8], buffer: &mut [u8]) -> usize
+fn poll(out: Stdout, meter: Meter, request: &[u8], buffer: &mut [u8]) -> io::Result<usize>
     requires { length buffer.old ≡ 256 }
-    ensures { (result ≤ 256) × (length buffer.new ≡ 256) }
+    ensures sent { IfOk result (λ n. n ≤ 256) }
+    ensures room { length buffer.new ≡ 256 }
 {
     let handled = board::handle(meter, request, buffer);
     let did = handled.reply;
     let Reply::Sent(n) = did else {
-        tell::unanswered(did);
-        return 0;
+        tell::unanswered(out, did)?;
+        return Ok(0);
     };
-    tell::exchange(request, &buffer[..n]);
-    n
+    tell::exchange(out, request, &buffer[..n])?;
+    Ok(n)
 }
 
 // The collector reads one item of a reply. An error code or a refusal is told here, and handed on as a plain word, which its caller
 // does not take for part of an energy.
-fn read(request: &[u8], reply: &[u8], ratios: Ratios, index: usize) -> Quantity {
+fn read(
+    out: Stdout,
+    request: &[u8],
+    reply: &[u8],
+    ratios: Ratios,
+    index: usize,
+) -> io::Result<Quantity> {
     let plate = Nameplate {
         ratios,
         order: Order::UpperFirst,
     };
     let answer = collector::read(request, reply, plate, index);
     let collector::Answer::Reading(quantity) = answer else {
-        tell::unread(answer);
-        return Quantity::Plain(0);
+        tell::unread(out, answer)?;
+        return Ok(Quantity::Plain(0));
     };
-    quantity
+    Ok(quantity)
 }
 
-fn load(joined: Joined, exact: u64, step: u64) {
+fn load(out: Stdout, joined: Joined, exact: u64, step: u64) -> io::Result<()> {
     match joined {
-        Joined::Energy(wh) => tell::bounds(wh.0, exact, step),
-        Joined::Refused(reason) => tell::refused(reason),
+        Joined::Energy(wh) => tell::bounds(out, wh.0, exact, step),
+        Joined::Refused(reason) => tell::refused(out, reason),
     }
 }

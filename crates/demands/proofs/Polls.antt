@@ -56,7 +56,7 @@ use Rattle.demands.proofs.Replies.{gives_long, gives_whole, echo_function}
 use Rattle.demands.proofs.Frames.{obeys, frames_when}
 use Rattle.demands.proofs.Seen.{to_own, named_address, whole}
 use Rattle.collector.specs.declared.Nameplate.{Nameplate}
-use Rattle.replies.specs.Judged.{heard, is_read_error}
+use Rattle.replies.specs.Judged.{is_read_error}
 use Rattle.collector.specs.Collector.{place_of, collector_in}
 use Rattle.collector.specs.When.{Asks, Asked, Fits, item_at, value_in, ReplyGives}
 use Rattle.replies.proofs.Requests.{Hears, hears, heard_so}

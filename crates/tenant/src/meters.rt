@@ -1,6 +1,7 @@
 // Meters with a second address, without one, and out of limits by one.
 use crate::frames;
 use board::{Answer, Answered, Given, Meter, Order, Powers, Ratios, Setup};
+use std::io::{self, Stdout};
 
 // A new meter of these addresses, which sends the upper word first.
 fn new(kta: u16, address: u8, second: u8) -> Answered {
@@ -39,61 +40,66 @@ pub fn read_by_two() -> Meter {
 
 // Ratios are looked at first, then the own address, then whether the two are equal. Without a second address 0 stays that of all
 // meters.
-pub fn new_meters() {
-    answer(b"addresses 1 and 9", new(1, 1, 9));
-    answer(b"addresses 1 and 1", new(1, 1, 1));
-    answer(b"addresses 0 and 0", new(1, 0, 0));
-    answer(b"KTA 0, addresses 1 and 1", new(0, 1, 1));
+pub fn new_meters(out: Stdout) -> io::Result<()> {
+    answer(out, b"addresses 1 and 9", new(1, 1, 9))?;
+    answer(out, b"addresses 1 and 1", new(1, 1, 1))?;
+    answer(out, b"addresses 0 and 0", new(1, 0, 0))?;
+    answer(out, b"KTA 0, addresses 1 and 1", new(0, 1, 1))?;
     let made = new(1, frames::OWN, Given::NO_SECOND);
-    answer(b"address 1 alone", made);
+    answer(out, b"address 1 alone", made)?;
     let m = made.meter;
-    ask::send(m, b"  a read to 0", &ask::read(0, 0x0301, 2));
-    ask::send(m, b"  a read to 9", &ask::read(9, 0x0301, 2));
+    ask::send(out, m, b"  a read to 0", &ask::read(0, 0x0301, 2))?;
+    ask::send(out, m, b"  a read to 9", &ask::read(9, 0x0301, 2))?;
+    Ok(())
 }
 
 // A record whose second address has become its own, and a buffer that is too short for the tenant's reply.
-pub fn refused(m: Meter) {
-    let mut out = m;
-    out.given.second = frames::OWN;
+pub fn refused(out: Stdout, m: Meter) -> io::Result<()> {
+    let mut outside = m;
+    outside.given.second = frames::OWN;
     let request = ask::read(frames::OWN, 0x0301, 2);
-    ask::send(out, b"a second address of 1, a frame", &request);
-    answer(b"a second address of 1, a sample", out.after(m.latest));
+    ask::send(out, outside, b"a second address of 1, a frame", &request)?;
+    answer(
+        out,
+        b"a second address of 1, a sample",
+        outside.after(m.latest),
+    )?;
     let good = ask::read(frames::SECOND, 0x0301, 2);
     let mut buffer = [0u8; 255];
     let handled = board::handle(m, &good, &mut buffer);
     let did = handled.reply;
-    say::text(b"a buffer of 255 bytes");
-    ask::unanswered(did);
+    say::text(out, b"a buffer of 255 bytes")?;
+    ask::unanswered(out, did)
 }
 
-fn answer(name: &[u8], a: Answered) {
-    say::text(name);
+fn answer(out: Stdout, name: &[u8], a: Answered) -> io::Result<()> {
+    say::text(out, name)?;
     let answer = a.answer;
     match answer {
-        Answer::Accepted => say::text(b", accepted"),
+        Answer::Accepted => say::text(out, b", accepted")?,
         Answer::Refused(reason) => {
-            say::text(b", ");
-            say::refused(reason);
+            say::text(out, b", ")?;
+            say::refused(out, reason)?;
         }
     }
-    say::end();
+    say::end(out)
 }
 
 // A meter and one that only its owner can tell from it, asked the same.
-pub fn alike(m: Meter) {
+pub fn alike(out: Stdout, m: Meter) -> io::Result<()> {
     let mut one = m;
     one.average.last = 98_765;
     one.average.peak = 123_456;
     one.average.window.seconds = 130;
     let two = unlike(one);
-    ask::send(one, b"0x2003 at 1", &ask::read(1, 0x2003, 1));
-    ask::send(two, b"  at 200", &ask::read(200, 0x2003, 1));
-    frames::ask(one, 0x0301, 2, b"0x0301 at 9");
-    frames::ask(two, 0x0301, 2, b"  of the other");
-    frames::ask(one, 0x101C, 8, b"0x101c at 9");
-    frames::ask(two, 0x101C, 8, b"  of the other");
-    frames::ask(one, 0x1027, 5, b"0x1027 at 9");
-    frames::ask(two, 0x1027, 5, b"  of the other");
+    ask::send(out, one, b"0x2003 at 1", &ask::read(1, 0x2003, 1))?;
+    ask::send(out, two, b"  at 200", &ask::read(200, 0x2003, 1))?;
+    frames::ask(out, one, 0x0301, 2, b"0x0301 at 9")?;
+    frames::ask(out, two, 0x0301, 2, b"  of the other")?;
+    frames::ask(out, one, 0x101C, 8, b"0x101c at 9")?;
+    frames::ask(out, two, 0x101C, 8, b"  of the other")?;
+    frames::ask(out, one, 0x1027, 5, b"0x1027 at 9")?;
+    frames::ask(out, two, 0x1027, 5, b"  of the other")
 }
 
 // Another own address, other setup words, other remainders and another open sum.

@@ -1,5 +1,6 @@
 // Frames to a meter of address 1.
 use board::Meter;
+use std::io::{self, Stdout};
 
 // A read of some words from an address on.
 pub fn read(start: u16, words: u8) -> [u8; 8] {
@@ -22,6 +23,7 @@ pub fn write(address: u8, code: u8) -> [u8; 41] {
 }
 
 // A read of some words from an address on, and its reply.
-pub fn ask(m: Meter, start: u16, words: u8, name: &[u8]) {
-    ask::send(m, name, &read(start, words));
+pub fn ask(out: Stdout, m: Meter, start: u16, words: u8, name: &[u8]) -> io::Result<()> {
+    ask::send(out, m, name, &read(start, words))?;
+    Ok(())
 }

@@ -1,37 +1,39 @@
 // Windows of 5 minutes, filled.
 use crate::{figures, frames};
 use board::Meter;
+use std::io::{self, Stdout};
 
 // A window whose sum is 299 above a multiple of its 300 seconds, and the first second of the next.
-pub fn rounded_down() -> Meter {
-    let open = figures::after(figures::new(1), 299, 100_000, b"299 seconds");
-    figures::show(open, figures::BYTE_BLOCK, b"  byte block");
-    let full = figures::after(open, 1, 120_248, b"300 seconds");
-    figures::show(full, figures::BYTE_BLOCK, b"  byte block");
-    alone(full);
-    let next = figures::after(full, 1, 100_000, b"301 seconds");
-    figures::show(next, figures::BYTE_BLOCK, b"  byte block");
-    next
+pub fn rounded_down(out: Stdout) -> io::Result<Meter> {
+    let open = figures::after(out, figures::new(1), 299, 100_000, b"299 seconds")?;
+    figures::show(out, open, figures::BYTE_BLOCK, b"  byte block")?;
+    let full = figures::after(out, open, 1, 120_248, b"300 seconds")?;
+    figures::show(out, full, figures::BYTE_BLOCK, b"  byte block")?;
+    alone(out, full)?;
+    let next = figures::after(out, full, 1, 100_000, b"301 seconds")?;
+    figures::show(out, next, figures::BYTE_BLOCK, b"  byte block")?;
+    Ok(next)
 }
 
 // Each of the six places by a read of its own.
-fn alone(m: Meter) {
-    frames::ask(m, 0x0350, 2, b"  0x0350");
-    frames::ask(m, 0x0354, 2, b"  0x0354");
-    frames::ask(m, 0x0358, 1, b"  0x0358");
-    frames::ask(m, 0x1027, 2, b"  0x1027");
-    frames::ask(m, 0x1029, 2, b"  0x1029");
-    frames::ask(m, 0x102B, 1, b"  0x102b");
+fn alone(out: Stdout, m: Meter) -> io::Result<()> {
+    frames::ask(out, m, 0x0350, 2, b"  0x0350")?;
+    frames::ask(out, m, 0x0354, 2, b"  0x0354")?;
+    frames::ask(out, m, 0x0358, 1, b"  0x0358")?;
+    frames::ask(out, m, 0x1027, 2, b"  0x1027")?;
+    frames::ask(out, m, 0x1029, 2, b"  0x1029")?;
+    frames::ask(out, m, 0x102B, 1, b"  0x102b")
 }
 
 // The rest of a second window. In its last 200 seconds P is negative, though phase 2 is not.
-pub fn lower(m: Meter) -> Meter {
-    let open = figures::after(m, 99, 60_000, b"400 seconds");
-    figures::after(open, 200, -900_000, b"600 seconds, 200 of negative P")
+pub fn lower(out: Stdout, m: Meter) -> io::Result<Meter> {
+    let open = figures::after(out, m, 99, 60_000, b"400 seconds")?;
+    figures::after(out, open, 200, -900_000, b"600 seconds, 200 of negative P")
 }
 
 // The same seconds below T = 50,000 and at it, where a register has whole W.
-pub fn units() {
-    figures::after(figures::new(4_999), 300, 1_234_418, b"T 49990");
-    figures::after(figures::new(5_000), 300, 1_234_418, b"T 50000");
+pub fn units(out: Stdout) -> io::Result<()> {
+    figures::after(out, figures::new(4_999), 300, 1_234_418, b"T 49990")?;
+    figures::after(out, figures::new(5_000), 300, 1_234_418, b"T 50000")?;
+    Ok(())
 }

@@ -8,23 +8,26 @@ mod frames;
 mod full;
 mod limits;
 
-fn main() {
-    longer_directory();
-    let m = full::lower(full::rounded_down());
-    codes::to_all(codes::there_and_back(codes::changed(m)));
-    codes::kept();
-    codes::each();
-    full::units();
-    limits::energy_top();
-    limits::minutes();
-    limits::records();
+use std::io::{self, Stdout};
+
+fn main(rt: HostRuntime) -> io::Result<()> {
+    let out = rt.stdout();
+    longer_directory(out)?;
+    let m = full::lower(out, full::rounded_down(out)?)?;
+    codes::to_all(out, codes::there_and_back(out, codes::changed(out, m)?)?)?;
+    codes::kept(out)?;
+    codes::each(out)?;
+    full::units(out)?;
+    limits::energy_top(out)?;
+    limits::minutes(out)?;
+    limits::records(out)
 }
 
 // Reads of a new meter that end inside the average and behind it, at the end of the byte block and past it.
-fn longer_directory() {
+fn longer_directory(out: Stdout) -> io::Result<()> {
     let m = figures::new(1);
-    frames::ask(m, 0x034D, 4, b"4 words from 0x034d");
-    frames::ask(m, 0x034D, 5, b"5 words from 0x034d");
-    frames::ask(m, 0x0300, 69, b"69 words from 0x0300");
-    frames::ask(m, 0x0300, 70, b"70 words from 0x0300");
+    frames::ask(out, m, 0x034D, 4, b"4 words from 0x034d")?;
+    frames::ask(out, m, 0x034D, 5, b"5 words from 0x034d")?;
+    frames::ask(out, m, 0x0300, 69, b"69 words from 0x0300")?;
+    frames::ask(out, m, 0x0300, 70, b"70 words from 0x0300")
 }

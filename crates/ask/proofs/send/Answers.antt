@@ -2,7 +2,6 @@
 use Rattle.std.proofs.Common.{sym, ◌≤◌, arith}
 use lib.Seq.{length-take-le}
 use Rattle.board.proofs.Lengths.{reply_long}
-use borrow.Author.Rules.{rules}
 use Rattle.ask.proofs.send.Goals as goal
 
 pub slice_bounds-buffer-end : goal.slice_bounds-buffer-end

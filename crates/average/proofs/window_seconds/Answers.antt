@@ -1,7 +1,6 @@
 -- 60 minutes are 3,600 seconds.
 use Rattle.std.proofs.Common.{arith}
 use Rattle.average.proofs.Limits.{coded_fits}
-use borrow.Author.Rules.{rules}
 use Rattle.average.proofs.window_seconds.Goals as goal
 
 pub overflow_mul-result : goal.overflow_mul-result

@@ -2,8 +2,7 @@
 use lib.ListN.{length}
 use Rattle.std.proofs.Common.{◌≡◌, sym, ap, ◌∙◌, Bool, true, false, not, List, ℕ}
 use lib.Dec.{ltb}
-use borrow.Author.Rules.{rules}
-use borrow.Author.Tests.{not-true, not-false, lt-ltb, le-ltb}
+use borrow.Author.Tests.{lt-ltb, le-ltb}
 use Rattle.modbus.specs.Frame.{silence}
 use Rattle.meter.specs.declared.given.Given.{Given}
 use Rattle.meter.specs.Meters.{meter_ok}

@@ -1,7 +1,6 @@
 -- The function decides; what is for all meters is answered by none.
 use Rattle.std.proofs.Common.{◌≡◌, sym, ap, ◌∙◌, Bool, true, false, ◌&&◌, not, arith}
 use Rattle.std.proofs.Math.Bool.{and-eq-true_iff}
-use borrow.Author.Rules.{rules}
 use borrow.Author.Tests.{eq-eqb, ne_eqb, not-true}
 use Rattle.modbus.proofs.Frames.{Heeded, heeded}
 use Rattle.own.specs.Own.{own}

@@ -1,7 +1,6 @@
 -- A frame of no bytes names no address, so not the second.
 use Rattle.std.proofs.Common.{sym}
 use Rattle.board.proofs.Cases.{second_none}
-use borrow.Author.Rules.{rules}
 use Rattle.board.proofs.to_second.Goals as goal
 
 pub returns-then-frame-eq0 : goal.returns-then-frame-eq0

@@ -1,6 +1,5 @@
 -- What the write came to is stored and, unless it is for all meters, answered by its verdict.
 use Rattle.std.proofs.Common.{◌≡◌, sym, ap, ◌∙◌, true, arith}
-use borrow.Author.Rules.{rules}
 use Rattle.modbus.proofs.Frames.{heeded, shaped_length}
 use Rattle.store.specs.declared.Verdict.TheVariants.{Good, Wrong}
 use Rattle.store.specs.declared.Written.{Written}

@@ -1,6 +1,6 @@
 -- The item is the one asked, its place that of the definition, and its words stand in the reply.
 use lib.ListN.{length}
-use Rattle.std.proofs.Common.{sym, ap, ◌∙◌, arith, List, ◌<◌}
+use Rattle.std.proofs.Common.{sym, ap, ◌∙◌, arith, ◌<◌}
 use Rattle.words.specs.Words.{value_at}
 use Rattle.directory.specs.declared.Item.{Item}
 use Rattle.directory.specs.Item.{items}
@@ -9,7 +9,6 @@ use Rattle.reading.specs.Readings.{reading_of}
 use Rattle.collector.specs.Collector.{place_of}
 use Rattle.words.proofs.Laws.{value_fits}
 use Rattle.collector.proofs.Places.{Known, known, item_past, item_reads}
-use borrow.Author.Rules.{rules}
 use Rattle.collector.proofs.item.Goals as goal
 
 pub returns-then-asked-index : goal.returns-then-asked-index

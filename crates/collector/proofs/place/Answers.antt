@@ -1,13 +1,12 @@
 -- In each turn the words of one item more are passed; an item sends one word or two.
 use lib.ListN.{take}
-use Rattle.std.proofs.Common.{◌≡◌, refl, ap, ◌∙◌, arith, add-one, List, ℕ, ◌+◌, ◌-◌, ◌*◌, ◌≤◌}
+use Rattle.std.proofs.Common.{◌≡◌, refl, ap, ◌∙◌, arith, add-one, ℕ, ◌+◌, ◌*◌}
 use Rattle.directory.specs.declared.Item.{Item}
 use Rattle.directory.specs.Item.{items}
 use Rattle.directory.specs.Run.{words_of}
 use Rattle.directory.proofs.Flat.{items_length}
 use Rattle.directory.proofs.Order.{Narrow}
 use Rattle.collector.proofs.Places.{words_upto, narrow_at}
-use borrow.Author.Rules.{rules}
 use Rattle.collector.proofs.place.Goals as goal
 
 pub loop-i-init : goal.loop-i-init

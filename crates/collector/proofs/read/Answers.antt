@@ -5,7 +5,6 @@ use Rattle.directory.specs.Views.{View}
 use Rattle.directory.proofs.Flat.{flat}
 use Rattle.own.proofs.Rules.{own_view, own_lent}
 use Rattle.collector.specs.Collector.{collector_in}
-use borrow.Author.Rules.{rules}
 use Rattle.collector.proofs.read.Goals as goal
 
 pub with_table-requires : goal.with_table-requires

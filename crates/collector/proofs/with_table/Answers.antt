@@ -4,13 +4,11 @@ use Rattle.directory.specs.declared.Item.{Item}
 use Rattle.directory.specs.Item.{items}
 use Rattle.directory.specs.Views.{view_of}
 use Rattle.ratio.specs.Ratios.{t_of}
-use Rattle.reading.specs.declared.Answer.{Answer}
 use Rattle.replies.specs.declared.Judgement.{Judgement}
 use Rattle.replies.specs.declared.Judgement.TheVariants.{Items}
 use Rattle.replies.specs.Judged.{judged_in}
 use Rattle.collector.specs.Collector.{item_of, on_data, collector_in}
 use Rattle.collector.proofs.Parts.{DataPart, data_part}
-use borrow.Author.Rules.{rules}
 use Rattle.collector.proofs.with_table.Goals as goal
 
 pub judge-judged-requires : goal.judge-judged-requires

@@ -1,8 +1,7 @@
 -- The tests are the definition's own, in its order; what is left is a count of steps.
 use Rattle.std.proofs.Common.{sym, ◌∙◌, arith}
-use borrow.Author.Tests.{lt-ltb, le-ltb, not-true, not-false}
+use borrow.Author.Tests.{lt-ltb, le-ltb}
 use Rattle.counts.specs.Counting.{top_count, join_of}
-use borrow.Author.Rules.{rules}
 use Rattle.counts.proofs.join.Goals as goal
 
 pub returns-then-not-within : goal.returns-then-not-within

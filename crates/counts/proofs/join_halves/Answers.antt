@@ -4,7 +4,6 @@ use lib.Dec.{ltb}
 use Rattle.refusal.specs.declared.Refusal.TheVariants.{JoinPastTop}
 use Rattle.counts.specs.declared.Joined.TheVariants.{Energy, Refused}
 use Rattle.counts.specs.Counting.{top_low, top_high, join_halves_of}
-use borrow.Author.Rules.{rules}
 use Rattle.counts.proofs.join_halves.Goals as goal
 
 halves_past : (low high : ℕ) → (ltb top_low low || ltb top_high high) ≡ true → Refused JoinPastTop ≡ join_halves_of low high

@@ -2,7 +2,6 @@
 use Rattle.std.proofs.Common.{refl, arith}
 use native.Mathlib.Nat.{mul-le-mul}
 use Rattle.ratio.proofs.Steps.{step_laws}
-use borrow.Author.Rules.{rules}
 use Rattle.counts.proofs.stepped.Goals as goal
 
 pub overflow_mul-result : goal.overflow_mul-result

@@ -1,5 +1,5 @@
 -- `continued` is the written CRC, gone on with: after i turns, the CRC so far goes on over the bytes from i to that of them all.
-use Rattle.std.proofs.Common.{◌≡◌, refl, ◌∙◌, List, ℕ, ◌-◌, ◌+◌, ◌≤◌, ◌<◌, add-one, arith}
+use Rattle.std.proofs.Common.{◌≡◌, refl, ◌∙◌, List, ℕ, ◌+◌, ◌≤◌, ◌<◌, add-one, arith}
 use lib.Bits.{bit_xor}
 use lib.ListN.{length, get_or, drop, drop_of_length-le}
 use lib.Seq.{drop-cons}

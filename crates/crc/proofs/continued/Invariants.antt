@@ -1,9 +1,7 @@
 -- `continued` is the written CRC, gone on with: after i turns, the CRC so far goes on over the bytes from i to that of them all.
-use Rattle.std.proofs.Common.{◌≡◌, refl, ◌∙◌, List, ℕ, ◌-◌, ◌+◌, ◌≤◌, ◌<◌, add-one, arith}
-use lib.Bits.{bit_xor}
-use lib.ListN.{length, get_or, drop, drop_of_length-le}
-use lib.Seq.{drop-cons}
-use Rattle.crc.specs.Crc.{shifts, crc_from}
+use Rattle.std.proofs.Common.{◌≡◌, ◌-◌, ◌≤◌}
+use lib.ListN.{length, drop}
+use Rattle.crc.specs.Crc.{crc_from}
 use Rattle.crc.proofs.continued.Given as goal
 
 abbrev pub invariant-loop-i : goal.invariant-loop-i

@@ -2,7 +2,6 @@
 use Rattle.std.proofs.Common.{◌≡◌, ◌&&◌, List, ℕ, ◌-◌, ◌/◌, ◌%◌, ◌≤◌}
 use lib.Dec.{eqb}
 use lib.ListN.{length, get_or}
-use borrow.Author.Rules.{rules}
 use borrow.Author.Tests.{le-leb}
 use Rattle.crc.specs.Crc.{ends_in}
 use Rattle.crc.proofs.Laws.{ends_in_none}

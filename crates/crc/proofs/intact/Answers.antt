@@ -1,7 +1,6 @@
 -- `intact` is the written test: a frame below two bytes fails it, and a longer one is held to the CRC `of` what stands before its last two bytes.
 use Rattle.std.proofs.Common.{sym, ◌∙◌, arith}
 use lib.Seq.{length-take-le}
-use borrow.Author.Rules.{rules}
 use Rattle.crc.proofs.Laws.{short_broken, ends_intact}
 use Rattle.crc.proofs.intact.Goals as goal
 

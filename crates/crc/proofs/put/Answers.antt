@@ -2,7 +2,6 @@
 use Rattle.std.proofs.Common.{◌≡◌, sym, true, false, List, ℕ, ◌+◌, ◌/◌, ◌%◌, ◌≤◌, ◌<◌, add-one, arith}
 use lib.ListN.{length, take, set, length-set}
 use lib.Seq.{length-take-le}
-use borrow.Author.Rules.{rules}
 use borrow.Author.Tests.{le-leb, lt-leb}
 use Rattle.crc.specs.Crc.{crc_of, Put}
 use Rattle.crc.proofs.put.Goals as goal

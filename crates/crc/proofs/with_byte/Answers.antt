@@ -1,6 +1,5 @@
 -- `with_byte` makes the eight written shifts: after k turns, 8 - k shifts are left to make.
 use Rattle.std.proofs.Common.{◌≡◌, refl, ◌∙◌, ℕ, suc, ◌-◌, ◌+◌, ◌≤◌, ◌<◌, arith}
-use lib.Bits.{bit_xor}
 use Rattle.crc.specs.Crc.{shift, shifts}
 use Rattle.crc.proofs.with_byte.Goals as goal
 

@@ -1,7 +1,7 @@
 -- `with_byte` makes the eight written shifts: after k turns, 8 - k shifts are left to make.
-use Rattle.std.proofs.Common.{◌≡◌, refl, ◌∙◌, ℕ, suc, ◌-◌, ◌+◌, ◌≤◌, ◌<◌, arith}
+use Rattle.std.proofs.Common.{◌≡◌, ◌-◌, ◌≤◌}
 use lib.Bits.{bit_xor}
-use Rattle.crc.specs.Crc.{shift, shifts}
+use Rattle.crc.specs.Crc.{shifts}
 use Rattle.crc.proofs.with_byte.Given as goal
 
 abbrev pub invariant-loop-k : goal.invariant-loop-k

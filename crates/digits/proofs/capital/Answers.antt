@@ -1,6 +1,5 @@
 -- `capital` makes the test of the definition; a letter counts from 10.
 use Rattle.std.proofs.Common.{arith}
-use borrow.Author.Rules.{rules}
 use borrow.Author.Tests.{lt-ltb, le-ltb}
 use Rattle.digits.proofs.capital.Goals as goal
 

@@ -2,7 +2,6 @@
 use Rattle.std.proofs.Common.{◌≡◌, Bool, true, ◌&&◌, ℕ, ◌≤◌, arith}
 use Rattle.std.proofs.Math.Bool.{and-eq-true_iff}
 use lib.Dec.{leb}
-use borrow.Author.Rules.{rules}
 use borrow.Author.Tests.{leb-true}
 use Rattle.digits.proofs.digit.Goals as goal
 

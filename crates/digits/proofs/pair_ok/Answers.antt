@@ -1,5 +1,4 @@
 -- Both tests are those of the definition, on the digits that `digit` answers.
-use borrow.Author.Rules.{rules}
 use Rattle.digits.proofs.pair_ok.Goals as goal
 
 pub returns : goal.returns

@@ -1,7 +1,6 @@
 -- Four numbers from 4 × i on are the item of index i.
 use Rattle.std.proofs.Common.{sym, arith}
 use Rattle.directory.proofs.Flat.{item_of}
-use borrow.Author.Rules.{rules}
 use Rattle.directory.proofs.item_at.Goals as goal
 
 pub returns : goal.returns

@@ -1,7 +1,6 @@
 -- From 4 × first on there are 4 × count numbers to the end.
 use lib.ListN.{take, drop}
 use Rattle.std.proofs.Common.{◌≡◌, ap, ℕ, ◌+◌, ◌-◌, ◌*◌, arith}
-use borrow.Author.Rules.{rules}
 use Rattle.directory.proofs.part.Goals as goal
 
 pub returns : goal.returns

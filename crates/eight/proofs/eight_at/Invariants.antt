@@ -1,10 +1,6 @@
 -- `eight_at` goes down from the eighth byte: after it has passed k, its number is that of the 8 - k bytes from there on, and has room for k bytes more.
-use Rattle.std.proofs.Common.{◌≡◌, refl, ap, ◌∙◌, List, ℕ, suc, ◌+◌, ◌-◌, ◌*◌, ◌%◌, ◌^◌, ◌≤◌, ◌<◌, arith}
-use native.Mathlib.Nat.{add-zero, lt_of_lt_of_le}
-use lib.Bits.{bit_xor, xor_lt}
-use lib.ListN.{length, get_or, take, drop}
-use lib.Pow.{pow_mono, shl_lt, shl_exact}
-use lib.Seq.{drop-cons}
+use Rattle.std.proofs.Common.{◌≡◌, ◌+◌, ◌-◌, ◌*◌, ◌^◌, ◌≤◌, ◌<◌}
+use lib.ListN.{take, drop}
 use Rattle.eight.specs.AtOnce.{number}
 use Rattle.eight.proofs.eight_at.Given as goal
 

@@ -1,7 +1,6 @@
 -- `intact` is the written test, with the CRC that `of` gives.
 use Rattle.std.proofs.Common.{sym, ◌∙◌, arith}
 use lib.Seq.{length-take-le}
-use borrow.Author.Rules.{rules}
 use Rattle.crc.proofs.Laws.{short_broken, ends_intact}
 use Rattle.eight.proofs.intact.Goals as goal
 

@@ -1,7 +1,6 @@
 -- `settled` is what its parts say, put together.
 use Rattle.std.proofs.Common.{ap, ◌∙◌, ℕ, ◌%◌, ◌^◌}
 use lib.Bits.{bit_xor}
-use borrow.Author.Rules.{rules}
 use Rattle.eight.specs.AtOnce.{run, narrowed, parity, mended, settled}
 use Rattle.eight.proofs.settled.Goals as goal
 

@@ -1,5 +1,5 @@
 -- `whole_eights` takes eight bytes a turn: the CRC so far, which x and p stand for, goes on over the bytes from i to that of them all.
-use Rattle.std.proofs.Common.{◌≡◌, refl, sym, ap, ◌∙◌, List, ℕ, ◌+◌, ◌-◌, ◌*◌, ◌/◌, ◌%◌, ◌^◌, ◌≤◌, ◌<◌, arith}
+use Rattle.std.proofs.Common.{◌≡◌, refl, sym, ap, ◌∙◌, List, ℕ, ◌+◌, ◌*◌, ◌/◌, ◌^◌, ◌≤◌, ◌<◌, arith}
 use lib.Bits.{bit_xor, xor_lt}
 use lib.ListN.{length, take, drop}
 use Rattle.crc.specs.Crc.{shifts, crc_from, crc_of}

@@ -1,6 +1,5 @@
 -- A good line is put as `put_bytes` says, and a bad one not at all.
 use Rattle.std.proofs.Common.{◌≡◌, true}
-use borrow.Author.Rules.{rules}
 use Rattle.lines.specs.Lines.{line_ok}
 use Rattle.lines.proofs.frame.Goals as goal
 

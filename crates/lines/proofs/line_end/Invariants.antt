@@ -1,8 +1,6 @@
 -- As far as `line_end` has come, the place and the length of what is left of the line make the same end.
-use lib.ListN.{length, get_or, drop, drop_of_length-le}
-use Rattle.std.proofs.Common.{◌≡◌, refl, List, ℕ, ◌+◌, ◌-◌, ◌≤◌, ◌<◌, add-one, arith}
-use lib.Seq.{drop-cons}
-use borrow.Author.Tests.{eq-eqb, ne_eqb}
+use lib.ListN.{length, drop}
+use Rattle.std.proofs.Common.{◌≡◌, ◌+◌, ◌-◌}
 use Rattle.lines.specs.Lines.{line_length}
 use Rattle.lines.proofs.line_end.Given as goal
 

@@ -1,6 +1,6 @@
 -- What is left passes the test of pairs where the line passes its own. In the end a pair is left, or fewer characters, which are none.
 use lib.ListN.{length, get_or, drop, length-drop, drop_of_length-le}
-use Rattle.std.proofs.Common.{◌≡◌, refl, sym, ◌∙◌, Bool, true, false, ◌&&◌, List, [], ◌∷◌, ℕ, suc, ◌+◌, ◌-◌, ◌≤◌, ◌<◌, arith}
+use Rattle.std.proofs.Common.{◌≡◌, refl, sym, ◌∙◌, Bool, true, false, ◌&&◌, List, [], ◌∷◌, ℕ, suc, ◌+◌, ◌<◌, arith}
 use lib.Dec.{eqb}
 use lib.Seq.{drop-cons}
 use Rattle.digits.specs.Hex.{pair_ok}

@@ -1,11 +1,8 @@
 -- What is left of the line is still good, and its bytes, stored from the next place on, make the buffer that is due.
-use lib.ListN.{length, get_or, set, take, drop, length-take, length-drop, length-set}
-use Rattle.std.proofs.Common.{◌≡◌, refl, sym, ◌∙◌, true, List, [], ℕ, suc, ◌+◌, ◌-◌, ◌*◌, ◌/◌, ◌≤◌, ◌<◌, min, add-one, arith}
-use native.Mathlib.Nat.{sub-zero}
+use lib.ListN.{length, take, drop}
+use Rattle.std.proofs.Common.{◌≡◌, true, ◌-◌, ◌*◌, ◌≤◌}
 use lib.Seq.{sets}
-use Rattle.digits.specs.Hex.{byte_of}
 use Rattle.lines.specs.Lines.{bytes_of, line_ok}
-use Rattle.lines.proofs.Laws.{nothing, bytes_length, turn_ok, turn_bytes}
 use Rattle.lines.proofs.put_bytes.Given as goal
 
 abbrev pub invariant-loop-i : goal.invariant-loop-i

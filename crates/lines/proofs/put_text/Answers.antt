@@ -1,8 +1,7 @@
 -- The text of what is left, stored where the next byte's digits stand, makes the buffer that is due.
 use lib.ListN.{length, get_or, set, drop, length-set, drop_of_length-le}
-use Rattle.std.proofs.Common.{◌≡◌, refl, sym, ◌∙◌, List, ℕ, suc, ◌+◌, ◌-◌, ◌*◌, ◌≤◌, arith}
+use Rattle.std.proofs.Common.{◌≡◌, refl, sym, ◌∙◌, List, ℕ, suc, ◌+◌, ◌*◌, ◌≤◌, arith}
 use lib.Seq.{sets, drop-cons}
-use borrow.Author.Rules.{rules}
 use Rattle.digits.specs.Hex.{pair_of}
 use Rattle.lines.specs.Lines.{text_of}
 use Rattle.lines.proofs.Laws.{two}

@@ -2,7 +2,6 @@
 use lib.ListN.{length}
 use Rattle.std.proofs.Common.{◌≡◌, ◌∙◌, List, [], ℕ, ◌-◌, ◌*◌, ◌≤◌, ◌<◌, arith}
 use lib.Seq.{sets}
-use borrow.Author.Rules.{rules}
 use borrow.Author.Tests.{le-leb, lt-leb}
 use Rattle.lines.specs.Lines.{text_of, TextPut}
 use Rattle.lines.proofs.Laws.{nothing}

@@ -1,11 +1,7 @@
 -- What was copied is the frame's, and from the ninth byte on the buffer is as it was; what the loop may leave in the two places behind the six bytes, the CRC
 -- is put over.
-use lib.ListN.{length, get_or, take, drop, length-set}
-use Rattle.std.proofs.Common.{◌≡◌, refl, sym, ap, ◌∙◌, List, ◌++◌, ◌∷◌, [], ℕ, ◌-◌, add-one, arith}
-use lib.Seq.{take-suc, take-suc-set, take-take, drop-set-lt, length-take-le}
-use Rattle.crc.proofs.Laws.{length_sealed}
-use Rattle.modbus.proofs.Stores.{seals_over}
-use borrow.Author.Rules.{rules}
+use lib.ListN.{length, take, drop}
+use Rattle.std.proofs.Common.{◌≡◌, ◌-◌}
 use Rattle.modbus.proofs.put_echo.Given as goal
 
 abbrev pub invariant-loop-i : goal.invariant-loop-i

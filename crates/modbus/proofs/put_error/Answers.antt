@@ -6,7 +6,6 @@ use Rattle.refusal.specs.Numbers.{error_number}
 use Rattle.modbus.specs.Frame.{address_of, function_of}
 use Rattle.modbus.specs.Replies.{error_reply}
 use Rattle.modbus.proofs.Stores.{seals}
-use borrow.Author.Rules.{rules}
 use Rattle.modbus.proofs.put_error.Goals as goal
 
 pub bounds-buffer-1 : goal.bounds-buffer-1

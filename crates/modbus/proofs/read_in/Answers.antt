@@ -4,7 +4,6 @@ use borrow.Author.Tests.{eq-eqb, ne_eqb}
 use Rattle.directory.specs.Views.{view_of}
 use Rattle.directory.proofs.Views.{passes_ruled}
 use Rattle.modbus.proofs.Frames.{read_length, read_number, read_run}
-use borrow.Author.Rules.{rules}
 use Rattle.modbus.proofs.read_in.Goals as goal
 
 pub returns-then-frame-ne-READ_LENGTH : goal.returns-then-frame-ne-READ_LENGTH

@@ -2,7 +2,6 @@
 use Rattle.std.proofs.Common.{arith}
 use borrow.Author.Tests.{le-leb, lt-leb}
 use Rattle.modbus.proofs.Frames.{by_length, by_address, by_function, by_crc, long_enough}
-use borrow.Author.Rules.{rules}
 use Rattle.modbus.proofs.silence.Goals as goal
 
 pub returns-then-n : goal.returns-then-n

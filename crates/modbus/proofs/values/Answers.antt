@@ -1,6 +1,6 @@
 -- The words that are left to read, stored behind those that were, are all of them; they fill the array, so nothing of it is left.
 use lib.ListN.{length, length-set}
-use Rattle.std.proofs.Common.{◌≡◌, refl, sym, ap, ◌∙◌, ◌+◌, ◌-◌, ◌*◌, ◌≤◌, arith}
+use Rattle.std.proofs.Common.{refl, sym, ap, ◌∙◌, ◌+◌, ◌*◌, arith}
 use native.Mathlib.Nat.{sub-zero}
 use lib.Seq.{sets}
 use Rattle.modbus.specs.Frame.{words_at}

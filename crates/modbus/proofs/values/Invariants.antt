@@ -1,11 +1,8 @@
 -- The words that are left to read, stored behind those that were, are all of them; they fill the array, so nothing of it is left.
-use lib.ListN.{length, length-set}
-use Rattle.std.proofs.Common.{◌≡◌, refl, sym, ap, ◌∙◌, ◌+◌, ◌-◌, ◌*◌, ◌≤◌, arith}
-use native.Mathlib.Nat.{sub-zero}
+use lib.ListN.{length}
+use Rattle.std.proofs.Common.{◌≡◌, ◌+◌, ◌-◌, ◌*◌, ◌≤◌}
 use lib.Seq.{sets}
 use Rattle.modbus.specs.Frame.{words_at}
-use Rattle.modbus.proofs.Stores.{sets_whole}
-use Rattle.modbus.proofs.Rows.{length_words, sets_words, words_none}
 use Rattle.modbus.proofs.values.Given as goal
 
 abbrev pub invariant-loop-i : goal.invariant-loop-i

@@ -1,7 +1,6 @@
 -- A frame under nine bytes is not shaped; of a longer one the three tests are the written ones.
 use Rattle.std.proofs.Common.{arith}
 use Rattle.modbus.proofs.Frames.{shape_short, shape_long}
-use borrow.Author.Rules.{rules}
 use Rattle.modbus.proofs.write_shaped.Goals as goal
 
 pub returns-then-n-lt-WRITE_OVERHEAD : goal.returns-then-n-lt-WRITE_OVERHEAD

@@ -3,7 +3,6 @@ use Rattle.std.proofs.Common.{arith}
 use Rattle.directory.specs.Item.{items}
 use Rattle.own.specs.Table.{directory}
 use Rattle.own.proofs.Rules.{own_ruled}
-use borrow.Author.Rules.{rules}
 use Rattle.own.proofs.run.Goals as goal
 
 pub run_in-requires : goal.run_in-requires

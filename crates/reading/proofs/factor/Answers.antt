@@ -8,7 +8,6 @@ use Rattle.reading.specs.declared.Quantity.TheVariants.{Factor}
 use Rattle.reading.specs.declared.Answer.{Answer}
 use Rattle.reading.specs.declared.Answer.TheVariants.{Reading, Refused}
 use Rattle.reading.specs.Readings.{times}
-use borrow.Author.Rules.{rules}
 use Rattle.reading.proofs.factor.Goals as goal
 
 -- what is read, where the magnitude is at most its top

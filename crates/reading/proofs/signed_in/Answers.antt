@@ -1,7 +1,6 @@
 -- The test is the definition's own.
 use Rattle.std.proofs.Common.{◌/◌, arith}
 use borrow.Author.Tests.{le-leb, lt-leb}
-use borrow.Author.Rules.{rules}
 use Rattle.reading.proofs.signed_in.Goals as goal
 
 pub returns-then-full-value : goal.returns-then-full-value

@@ -1,7 +1,6 @@
 -- The test is the definition's own.
 use Rattle.std.proofs.Common.{arith}
 use borrow.Author.Tests.{eq-eqb, ne_eqb}
-use borrow.Author.Rules.{rules}
 use Rattle.reading.proofs.unit.Goals as goal
 
 pub returns-then-which-eq-WHOLE_S : goal.returns-then-which-eq-WHOLE_S

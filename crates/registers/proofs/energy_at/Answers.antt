@@ -4,7 +4,6 @@ use Rattle.std.proofs.Common.{sym, ap, ◌≤◌, arith}
 use Rattle.meter.specs.declared.energies.Energy.{Energy}
 use Rattle.meter.specs.Energies.{no_energy}
 use Rattle.meter.specs.Meters.{energies_of}
-use borrow.Author.Rules.{rules}
 use Rattle.registers.proofs.energy_at.Goals as goal
 
 pub returns-in_default : goal.returns-in_default

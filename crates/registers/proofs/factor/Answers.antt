@@ -3,7 +3,6 @@ use lib.ListN.{get_or-eq_default}
 use Rattle.std.proofs.Common.{refl, sym, arith}
 use Rattle.meter.specs.Samples.{factor_of}
 use Rattle.registers.specs.Shown.{factor_values}
-use borrow.Author.Rules.{rules}
 use Rattle.registers.proofs.factor.Goals as goal
 
 pub overflow_cast-thousandths : goal.overflow_cast-thousandths

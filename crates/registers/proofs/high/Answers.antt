@@ -3,7 +3,6 @@ use Rattle.std.proofs.Common.{sym, arith}
 use Rattle.counts.proofs.Joins.{counts_fit}
 use Rattle.meter.specs.Meters.{energy_at}
 use Rattle.registers.proofs.Values.{high_at, energy_most}
-use borrow.Author.Rules.{rules}
 use Rattle.registers.proofs.high.Goals as goal
 
 pub overflow_cast-result : goal.overflow_cast-result

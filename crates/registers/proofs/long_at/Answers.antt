@@ -1,7 +1,6 @@
 -- Inside, the list's own; past its end both sides are 0.
 use lib.ListN.{get_or-eq_default}
 use Rattle.std.proofs.Common.{sym}
-use borrow.Author.Rules.{rules}
 use Rattle.registers.proofs.long_at.Goals as goal
 
 pub returns-else-i-longs : goal.returns-else-i-longs

@@ -1,7 +1,6 @@
 -- What the call gives is what stands in the list there.
 use Rattle.std.proofs.Common.{sym}
 use Rattle.registers.proofs.Values.{low_at}
-use borrow.Author.Rules.{rules}
 use Rattle.registers.proofs.low.Goals as goal
 
 pub returns : goal.returns

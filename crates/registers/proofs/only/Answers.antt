@@ -1,7 +1,6 @@
 -- The one value, or past it 0 on both sides.
 use lib.ListN.{get_or-eq_default}
 use Rattle.std.proofs.Common.{sym, [], ◌∷◌, arith}
-use borrow.Author.Rules.{rules}
 use Rattle.registers.proofs.only.Goals as goal
 
 pub returns-else-which-eq0 : goal.returns-else-which-eq0

@@ -2,7 +2,6 @@
 use Rattle.std.proofs.Common.{refl, sym, ◌∙◌, ◌≤◌, arith}
 use Rattle.registers.specs.Shown.{plain_values}
 use Rattle.registers.proofs.Values.{plain_at}
-use borrow.Author.Rules.{rules}
 use Rattle.registers.proofs.plain.Goals as goal
 
 pub returns-in-0 : goal.returns-in-0

@@ -1,12 +1,10 @@
 -- What is within the power limit fits its register.
 use Rattle.std.proofs.Common.{sym, arith}
 use Rattle.ratio.proofs.Powers.{powers_fit}
-use Rattle.directory.proofs.ByKind.{number_past}
 use Rattle.meter.specs.Meters.{meter_t}
 use Rattle.meter.proofs.Parts.{meter_parts, sample_parts, figures, last_most}
 use Rattle.registers.specs.Shown.{power_at}
 use Rattle.registers.proofs.Values.{power_s, power_whole, power_average, power_peak, power_at_lem, power_most}
-use borrow.Author.Rules.{rules}
 use Rattle.registers.proofs.power.Goals as goal
 
 pub overflow_cast-result : goal.overflow_cast-result

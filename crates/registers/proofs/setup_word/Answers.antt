@@ -2,7 +2,6 @@
 use lib.ListN.{get_or-append, get_or-eq_default}
 use Rattle.std.proofs.Common.{sym, ◌∙◌}
 use Rattle.registers.proofs.Values.{second_at}
-use borrow.Author.Rules.{rules}
 use Rattle.registers.proofs.setup_word.Goals as goal
 
 pub returns-then-i-standard : goal.returns-then-i-standard

@@ -1,10 +1,8 @@
 -- By kind: what a kind's function gives is what stands in its list.
 use Rattle.std.proofs.Common.{sym, ◌∙◌, arith}
-use Rattle.directory.proofs.ByKind.{kind_past}
 use Rattle.meter.specs.Meters.{meter_t}
 use Rattle.meter.proofs.Parts.{two_at_most, meter_parts, sample_parts}
 use Rattle.registers.proofs.Values.{shown_kind, shown_none}
-use borrow.Author.Rules.{rules}
 use Rattle.registers.proofs.shown.Goals as goal
 
 pub factor-requires : goal.factor-requires

@@ -1,6 +1,5 @@
 -- What the call gives is what stands in the list there.
 use Rattle.std.proofs.Common.{sym}
-use borrow.Author.Rules.{rules}
 use Rattle.registers.proofs.Values.{sign_at}
 use Rattle.registers.proofs.sign.Goals as goal
 

@@ -4,7 +4,6 @@ use Rattle.ratio.proofs.Powers.{powers_fit}
 use Rattle.meter.specs.Meters.{meter_t}
 use Rattle.registers.specs.Shown.{power_at}
 use Rattle.registers.proofs.Values.{signed_at, power_most}
-use borrow.Author.Rules.{rules}
 use Rattle.registers.proofs.signed_power.Goals as goal
 
 pub overflow_cast-p : goal.overflow_cast-p

@@ -3,7 +3,6 @@ use Rattle.std.proofs.Common.{sym, arith}
 use Rattle.counts.proofs.Joins.{counts_fit}
 use Rattle.meter.specs.Meters.{meter_t, energy_at}
 use Rattle.registers.proofs.Values.{wrap_at, energy_most}
-use borrow.Author.Rules.{rules}
 use Rattle.registers.proofs.wrap.Goals as goal
 
 pub overflow_cast-result : goal.overflow_cast-result

@@ -3,7 +3,6 @@ use lib.ListN.{length, get_or}
 use Rattle.std.proofs.Common.{arith}
 use borrow.Author.Tests.{eq-eqb, ne_eqb}
 use Rattle.replies.specs.Judged.{error_of}
-use borrow.Author.Rules.{rules}
 use Rattle.replies.proofs.error.Goals as goal
 
 pub returns-then-reply-ne-REPLY_LEAST : goal.returns-then-reply-ne-REPLY_LEAST

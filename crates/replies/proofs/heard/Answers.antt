@@ -3,10 +3,9 @@ use lib.ListN.{length}
 use Rattle.std.proofs.Common.{refl, sym, ◌∙◌, arith}
 use Rattle.std.proofs.Math.Bool.{and-false}
 use borrow.Author.Tests.{lt-ltb}
-use Rattle.modbus.specs.Frame.{address_of, silence}
+use Rattle.modbus.specs.Frame.{address_of}
 use Rattle.modbus.proofs.Frames.{by_length}
 use Rattle.replies.proofs.Requests.{heard_by}
-use borrow.Author.Rules.{rules}
 use Rattle.replies.proofs.heard.Goals as goal
 
 pub returns-then-request-lt-FRAME_LEAST : goal.returns-then-request-lt-FRAME_LEAST

@@ -1,15 +1,13 @@
 -- The tests are the definition's own, in its order.
 use Rattle.std.proofs.Common.{◌≡◌, ℕ, List, sym, ap, ◌∙◌}
-use borrow.Author.Tests.{not-true, not-false}
 use Rattle.directory.specs.declared.Span.{Span}
 use Rattle.directory.specs.declared.Span.TheVariants.{Items, Error}
-use Rattle.directory.specs.Views.{View, view_of}
+use Rattle.directory.specs.Views.{view_of}
 use Rattle.modbus.specs.Read.{read_in}
 use Rattle.modbus.proofs.Judged.{legal_read}
 use Rattle.replies.specs.declared.Judgement.{Judgement}
 use Rattle.replies.specs.declared.Judgement.TheVariants as judgement
-use Rattle.replies.specs.Judged.{heard, on_items, reply_of, judged_in}
-use borrow.Author.Rules.{rules}
+use Rattle.replies.specs.Judged.{on_items, reply_of, judged_in}
 use Rattle.replies.proofs.judge.Goals as goal
 
 -- how a read that asks for items goes on

@@ -2,12 +2,11 @@
 use lib.ListN.{length}
 use Rattle.std.proofs.Common.{◌≡◌, sym, ◌∙◌, arith, List, true, false, ◌||◌, ℕ, ◌≤◌}
 use lib.Dec.{ltb}
-use borrow.Author.Tests.{not-true, not-false, eq-eqb, ne_eqb, ltb-false}
+use borrow.Author.Tests.{eq-eqb, ne_eqb, ltb-false}
 use Rattle.crc.specs.Crc.{intact}
 use Rattle.modbus.proofs.Frames.{neither}
 use Rattle.replies.specs.Judged.{length_wrong}
 use Rattle.replies.proofs.Judged.{length_refused, crc_refused, foreign_refused, error_given, misfit_refused, data_given, misfit_read}
-use borrow.Author.Rules.{rules}
 use Rattle.replies.proofs.replied.Goals as goal
 
 -- the bytes that are looked at are there

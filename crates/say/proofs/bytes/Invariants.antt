@@ -1,6 +1,6 @@
 -- Each turn leaves one byte fewer.
 use lib.ListN.{length}
-use Rattle.std.proofs.Common.{◌≤◌, ◌-◌, arith}
+use Rattle.std.proofs.Common.{◌≤◌, ◌-◌}
 use Rattle.say.proofs.bytes.Given as goal
 
 abbrev pub invariant-loop-i : goal.invariant-loop-i

@@ -1,5 +1,5 @@
 -- Each arm is one row of the ranges; the last is reached where no row names the address.
-use Rattle.std.proofs.Common.{arith, ℕ, ◌≤◌, ◌<◌, ◌≡◌, refl}
+use Rattle.std.proofs.Common.{arith, ◌≤◌, ◌<◌, refl}
 use borrow.Author.Tests.{ne_eqb, le-leb, lt-leb}
 use Rattle.setup.specs.Ranges.{word_ok}
 use Rattle.setup.proofs.word_ok.Goals as goal

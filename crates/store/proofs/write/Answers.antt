@@ -1,11 +1,10 @@
 -- A write that is not shaped, or goes to no group, is wrong; the others are judged where their group is known.
 use Rattle.std.proofs.Common.{◌≡◌, sym, ap, ◌∙◌, true, ℕ, arith}
 use lib.Dec.{eqb}
-use borrow.Author.Tests.{not-true, not-false, eq-eqb, ne_eqb}
+use borrow.Author.Tests.{eq-eqb, ne_eqb}
 use Rattle.modbus.specs.Frame.{write_shaped}
 use Rattle.modbus.proofs.Frames.{shaped_length}
 use Rattle.store.proofs.Stored.{misshaped, nowhere}
-use borrow.Author.Rules.{rules}
 use Rattle.store.proofs.write.Goals as goal
 
 pub returns-then-not-write_shaped : goal.returns-then-not-write_shaped

@@ -1,7 +1,5 @@
 -- The count is tested, then the words are read, then the group is tested: each return has a law of the definition for it.
-use Rattle.std.proofs.Common.{◌≡◌, sym, ap, ◌∙◌, Bool, List, ℕ, arith}
-use borrow.Author.Rules.{rules}
-use borrow.Author.Tests.{not-true, not-false}
+use Rattle.std.proofs.Common.{◌≡◌, sym, ap, ◌∙◌, List, ℕ, arith}
 use Rattle.setup.specs.Ranges.{group_ok}
 use Rattle.modbus.specs.Frame.{word_number, words_at, write_values}
 use Rattle.modbus.proofs.Frames.{shaped_length}

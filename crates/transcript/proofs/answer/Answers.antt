@@ -10,7 +10,6 @@ use Rattle.meter.specs.declared.Meter.{Meter}
 use Rattle.board.specs.declared.Handled.{Handled}
 use Rattle.board.specs.Board.{Outcome, Allowed, board_of}
 use Rattle.board.proofs.Lengths.{reply_long}
-use borrow.Author.Rules.{rules}
 use Rattle.transcript.specs.Transcript.{bad_text, reply_text, outcome_of, line_text, meter_after}
 use Rattle.transcript.proofs.Outcomes.{cut}
 use Rattle.transcript.proofs.answer.Goals as goal

@@ -2,7 +2,6 @@
 use lib.ListN.{length}
 use Rattle.std.proofs.Common.{◌∙◌, List, ℕ, ◌*◌, ◌≤◌, ◌<◌, arith}
 use lib.Seq.{sets}
-use borrow.Author.Rules.{rules}
 use borrow.Author.Tests.{le-leb, lt-leb}
 use Rattle.transcript.specs.Transcript.{bench_text, Transcribed}
 use Rattle.transcript.proofs.of.Goals as goal

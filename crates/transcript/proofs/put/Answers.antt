@@ -1,6 +1,6 @@
 -- The characters that are left, stored from the next place on, make the text that is due.
 use lib.ListN.{length, get_or, set, drop, length-set, drop_of_length-le}
-use Rattle.std.proofs.Common.{◌≡◌, refl, sym, ◌∙◌, List, ℕ, suc, ◌+◌, ◌-◌, ◌≤◌, ◌<◌, add-one, arith}
+use Rattle.std.proofs.Common.{◌≡◌, refl, sym, ◌∙◌, List, ℕ, suc, ◌+◌, ◌≤◌, ◌<◌, add-one, arith}
 use native.Mathlib.Nat.{add-zero}
 use lib.Seq.{sets, drop-cons}
 use Rattle.transcript.proofs.put.Goals as goal

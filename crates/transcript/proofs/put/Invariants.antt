@@ -1,8 +1,7 @@
 -- The characters that are left, stored from the next place on, make the text that is due.
-use lib.ListN.{length, get_or, set, drop, length-set, drop_of_length-le}
-use Rattle.std.proofs.Common.{◌≡◌, refl, sym, ◌∙◌, List, ℕ, suc, ◌+◌, ◌-◌, ◌≤◌, ◌<◌, add-one, arith}
-use native.Mathlib.Nat.{add-zero}
-use lib.Seq.{sets, drop-cons}
+use lib.ListN.{length, drop}
+use Rattle.std.proofs.Common.{◌≡◌, ◌+◌, ◌-◌, ◌≤◌}
+use lib.Seq.{sets}
 use Rattle.transcript.proofs.put.Given as goal
 
 abbrev pub invariant-loop-i : goal.invariant-loop-i

@@ -10,7 +10,6 @@ use Rattle.meter.specs.Meters.{new_of}
 use Rattle.words.proofs.Laws.{sets_append}
 use Rattle.transcript.proofs.Texts.{line_ends, next_text, next_length}
 use Rattle.transcript.proofs.Written.{text_written}
-use borrow.Author.Rules.{rules}
 use Rattle.transcript.proofs.run.Goals as goal
 
 begun : (made : Answered) (input : List ℕ) → made ≡ new_of bench_given → transcript_of made.meter (lines_of input) ≡ bench_text input

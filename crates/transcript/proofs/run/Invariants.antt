@@ -1,15 +1,8 @@
 -- The text of the lines that are left, stored where the text ends so far, makes the whole one; it has room, since the whole text has.
-use lib.ListN.{length, take, drop, set, length-set, drop_of_length-le}
-use Rattle.std.proofs.Common.{◌≡◌, refl, ap, ◌∙◌, List, [], ◌∷◌, ◌++◌, ℕ, suc, ◌+◌, ◌-◌, ◌≤◌, ◌<◌, arith}
-use lib.Seq.{sets, length-sets}
-use Rattle.transcript.specs.Transcript.{lines_of, transcript_of, line_text, meter_after, bench_given, bench_meter, bench_text}
-use Rattle.meter.specs.declared.Meter.{Meter}
-use Rattle.meter.specs.declared.Answered.{Answered}
-use Rattle.meter.specs.Meters.{new_of}
-use Rattle.words.proofs.Laws.{sets_append}
-use Rattle.transcript.proofs.Texts.{line_ends, next_text, next_length}
-use Rattle.transcript.proofs.Written.{text_written}
-use borrow.Author.Rules.{rules}
+use lib.ListN.{length, drop}
+use Rattle.std.proofs.Common.{◌≡◌, ◌+◌, ◌-◌, ◌≤◌}
+use lib.Seq.{sets}
+use Rattle.transcript.specs.Transcript.{lines_of, transcript_of, bench_text}
 use Rattle.transcript.proofs.run.Given as goal
 
 abbrev pub invariant-loop-at : goal.invariant-loop-at

@@ -1,17 +1,13 @@
 -- The text of a reply that is sent is written into the rest of the text, which it then stands in front of; whatever else the meter did is `silent`.
 use lib.ListN.{length, take, drop, length-take, length-drop, drop_of_length-le}
 use Rattle.std.proofs.Common.{◌≡◌, refl, sym, ap, ◌∙◌, true, List, [], append_assoc, append-nil, ℕ, ◌+◌, ◌-◌, ◌*◌, ◌≤◌, ◌<◌, arith}
-use mathlib.Core.Logic.{◌⊎◌, inl, inr}
 use lib.Seq.{sets, sets-eq, take_all, drop-drop, length-take-le}
-use denote.Enum.Declared.{tag_of}
-use borrow.Author.Rules.{rules}
 use borrow.Author.Tests.{le-leb}
 use borrow.Rule.Slice.PartMut.{put_mid}
 use Rattle.lines.specs.Lines.{text_of, text_fits, TextPut}
 use Rattle.lines.proofs.Texts.{text_length_lem}
 use Rattle.modbus.proofs.Stores.{sets_front}
 use Rattle.board.specs.declared.Reply.{Reply}
-use Rattle.board.specs.contracts.Reply.{the_type}
 use Rattle.board.specs.declared.Reply.TheVariants.{Silent, Sent, Refused}
 use Rattle.transcript.specs.Transcript.{silent_text, reply_text}
 use Rattle.transcript.proofs.tell.Goals as goal

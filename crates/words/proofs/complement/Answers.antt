@@ -1,8 +1,6 @@
 -- No sign, a zero, or all values of the words less the magnitude.
 use Rattle.std.proofs.Common.{◌≡◌, refl, sym, ◌∙◌, ℕ, ◌+◌, ◌-◌, ◌%◌, ◌≤◌, arith}
 use native.Mathlib.Nat.{sub-zero, mod-eq_of_lt, mod_self}
-use borrow.Author.Tests.{not-true, not-false}
-use borrow.Author.Rules.{rules}
 use Rattle.words.proofs.complement.Goals as goal
 
 pub returns-then-not-negative : goal.returns-then-not-negative

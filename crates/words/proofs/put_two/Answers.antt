@@ -3,7 +3,6 @@ use Rattle.std.proofs.Common.{ap, ◌∙◌, List, ℕ, ◌+◌}
 use lib.Seq.{sets}
 use Rattle.words.specs.Words.{word}
 use Rattle.words.proofs.Laws.{sets_append}
-use borrow.Author.Rules.{rules}
 use Rattle.words.proofs.put_two.Goals as goal
 
 pub returns : goal.returns

@@ -1,7 +1,6 @@
 -- The definition at its width.
 use Rattle.std.proofs.Common.{arith}
 use Rattle.words.specs.Signed.{twos}
-use borrow.Author.Rules.{rules}
 use Rattle.words.proofs.twos_quad.Goals as goal
 
 pub complement-requires : goal.complement-requires

@@ -1,6 +1,5 @@
 -- The definition at its width.
 use Rattle.words.specs.Signed.{twos}
-use borrow.Author.Rules.{rules}
 use Rattle.words.proofs.twos_word.Goals as goal
 
 pub returns : goal.returns

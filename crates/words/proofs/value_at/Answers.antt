@@ -2,7 +2,6 @@
 use Rattle.std.proofs.Common.{◌≡◌, refl, arith}
 use Rattle.words.specs.declared.Order.TheVariants.{UpperFirst, LowerFirst}
 use Rattle.words.proofs.Laws.{value_word, value_upper, value_lower}
-use borrow.Author.Rules.{rules}
 use Rattle.words.proofs.value_at.Goals as goal
 
 pub returns-then-words-eq1 : goal.returns-then-words-eq1

@@ -3,7 +3,7 @@ use Rattle.std.proofs.Common.{◌≡◌, refl, sym, ap, ap₂, ◌∙◌, Bool, 
 use lib.Dec.{ltb}
 use borrow.Author.Tests.{lt-ltb, le-ltb}
 use Rattle.average.specs.declared.Window.{Window}
-use Rattle.average.specs.Windows.{window_seconds, joined_by, closed_by, after_second}
+use Rattle.average.specs.Windows.{closed_by, after_second}
 use Rattle.average.proofs.Average.after.Goals as goal
 
 -- what the test found of that window

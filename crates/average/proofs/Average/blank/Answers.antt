@@ -1,6 +1,5 @@
 -- All of it is 0.
 use Rattle.std.proofs.Common.{refl}
-use borrow.Author.Rules.{rules}
 use Rattle.average.proofs.Average.blank.Goals as goal
 
 pub returns : goal.returns

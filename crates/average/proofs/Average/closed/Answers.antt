@@ -1,6 +1,5 @@
 -- Each call tells its part.
 use Rattle.std.proofs.Common.{refl}
-use borrow.Author.Rules.{rules}
 use Rattle.average.proofs.Average.closed.Goals as goal
 
 pub returns : goal.returns

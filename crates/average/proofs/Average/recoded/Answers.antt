@@ -1,6 +1,5 @@
 -- The test is the definition's own.
 use borrow.Author.Tests.{eq-eqb, ne_eqb}
-use borrow.Author.Rules.{rules}
 use Rattle.average.proofs.Average.recoded.Goals as goal
 
 pub returns-then-before-after : goal.returns-then-before-after

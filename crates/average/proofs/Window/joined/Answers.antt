@@ -1,7 +1,6 @@
 -- What joins the sum is at most the larger power limit.
 use Rattle.std.proofs.Common.{refl, arith}
 use Rattle.signed.proofs.Sums.{above_le}
-use borrow.Author.Rules.{rules}
 use Rattle.average.proofs.Window.joined.Goals as goal
 
 pub overflow_add-result-2 : goal.overflow_add-result-2

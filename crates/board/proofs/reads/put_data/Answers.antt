@@ -1,8 +1,7 @@
 -- The items send just the words asked for, and a frame has room for these with their head and CRC.
 use lib.ListN.{length, length-set}
-use Rattle.std.proofs.Common.{◌≡◌, ap, ◌∙◌, List, ◌∷◌, ℕ, ◌+◌, ◌*◌, ◌≤◌, arith}
+use Rattle.std.proofs.Common.{◌≡◌, ap, ◌∙◌, ◌∷◌, ℕ, ◌+◌, ◌*◌, ◌≤◌, arith}
 use lib.Seq.{sets, length-sets}
-use borrow.Author.Rules.{rules}
 use Rattle.crc.proofs.Laws.{length_sealed}
 use Rattle.directory.specs.Item.{items}
 use Rattle.modbus.specs.Frame.{address_of, function_of, word_number}

@@ -1,17 +1,11 @@
 -- What was written, with what is left written behind it, is all of it written; an item sends one word or two.
-use lib.ListN.{length, drop, drop_of_length-le}
-use Rattle.std.proofs.Common.{◌≡◌, refl, sym, ap, ◌∙◌, List, ℕ, ◌+◌, ◌-◌, ◌*◌, ◌≤◌, ◌<◌, arith}
-use lib.Seq.{sets, length-sets}
-use borrow.Author.Rules.{rules}
-use Rattle.words.specs.Words.{sent}
-use Rattle.directory.specs.declared.Item.{Item}
+use lib.ListN.{length, drop}
+use Rattle.std.proofs.Common.{◌≡◌, ◌+◌, ◌-◌, ◌*◌, ◌≤◌}
+use lib.Seq.{sets}
 use Rattle.directory.specs.Item.{items}
 use Rattle.directory.specs.Run.{words_of}
-use Rattle.directory.proofs.Flat.{items_length}
-use Rattle.directory.proofs.Order.{Narrow, every_narrow}
 use Rattle.registers.specs.Shown.{shown_of}
 use Rattle.board.specs.Reads.{items_sent}
-use Rattle.board.proofs.Sent.{words_on, sent_on}
 use Rattle.board.proofs.reads.put_items.Given as goal
 
 abbrev pub invariant-loop-i : goal.invariant-loop-i

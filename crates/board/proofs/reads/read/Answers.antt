@@ -2,7 +2,6 @@
 use lib.ListN.{length}
 use Rattle.std.proofs.Common.{◌≡◌, ap, ◌∙◌, Bool, true, false, cond}
 use lib.Seq.{sets}
-use borrow.Author.Rules.{rules}
 use Rattle.own.specs.Table.{directory}
 use Rattle.own.specs.Own.{own, own_reach, tenant_reach}
 use Rattle.directory.specs.declared.Reach.{Reach}

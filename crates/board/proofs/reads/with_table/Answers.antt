@@ -12,7 +12,6 @@ use Rattle.modbus.specs.Read.{read_in}
 use Rattle.modbus.proofs.Judged.{AskedPart, asked_part}
 use Rattle.registers.specs.Shown.{shown_of}
 use Rattle.board.specs.Reads.{items_sent, data_reply, read_bytes, read_reply}
-use borrow.Author.Rules.{rules}
 use Rattle.board.proofs.reads.with_table.Goals as goal
 
 -- the reply of a judgement is the reply of the read that is judged so

@@ -1,6 +1,6 @@
 -- In each turn one item more is read; the first that is refused ends it.
 use lib.ListN.{length}
-use Rattle.std.proofs.Common.{◌≡◌, refl, sym, ap, subst, ◌∙◌, Bool, true, false, not, arith, add-one, List, [], ◌∷◌, ◌++◌, map, ℕ, ◌+◌, ◌-◌, ◌≤◌, ◌<◌}
+use Rattle.std.proofs.Common.{◌≡◌, refl, sym, ap, subst, ◌∙◌, Bool, true, false, not, arith, add-one, List, [], ◌∷◌, ◌++◌, map, ℕ, ◌<◌}
 use mathlib.Core.Bool.{false≢true}
 use lib.Seq.{sets}
 use Rattle.refusal.specs.declared.Refusal.TheVariants.{ValueImpossible}
@@ -20,8 +20,7 @@ use Rattle.collector.specs.Collector.{place_of, item_of}
 use Rattle.collector.specs.Whole.{in_turn, is_thirteen}
 use Rattle.collector.proofs.When.{impossible, possible}
 use Rattle.collector.proofs.Places.{words_upto, Known, known, item_reads}
-use Rattle.collector.proofs.Turns.{Laid, Read, read_length, read_none, read_all, read_next, any_at, laid_length, laid_next}
-use borrow.Author.Rules.{rules}
+use Rattle.collector.proofs.Turns.{Read, read_length, read_none, read_all, read_next, any_at, laid_length, laid_next}
 use Rattle.collector.proofs.whole.all_read.Goals as goal
 
 pub loop-i-init : goal.loop-i-init

@@ -4,12 +4,10 @@ use Rattle.std.proofs.Common.{◌≡◌, sym, ap, ap₂, subst, ◌∙◌, arith
 use lib.Dec.{ltb}
 use lib.Seq.{sets}
 use borrow.Author.Tests.{not-true, not-false, ltb-false}
-use Rattle.directory.specs.declared.Item.{Item}
 use Rattle.directory.specs.Item.{items}
 use Rattle.directory.proofs.Flat.{items_length}
 use Rattle.modbus.proofs.Frames.{neither}
 use Rattle.modbus.proofs.Stores.{sets_taken}
-use Rattle.reading.specs.declared.Answer.{Answer}
 use Rattle.reading.specs.Told.{kind_of}
 use Rattle.reading.specs.Cells.{cell_of}
 use Rattle.collector.specs.declared.whole.Whole.TheVariants.{Items}
@@ -18,7 +16,6 @@ use Rattle.collector.specs.Whole.{in_turn, any_thirteen, readings_in, Rows}
 use Rattle.collector.proofs.When.{item_possible}
 use Rattle.collector.proofs.Turns.{turns_length, turns_read, read_length, read_all, laid_length}
 use Rattle.collector.proofs.Rows.{short, short_kept, refused_kept, all_filled, allowed, few_items}
-use borrow.Author.Rules.{rules}
 use Rattle.collector.proofs.whole.fill.Goals as goal
 
 pub returns-then-values-n : goal.returns-then-values-n

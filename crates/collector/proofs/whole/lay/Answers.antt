@@ -1,9 +1,8 @@
 -- In each turn one cell more of both.
 use lib.ListN.{length, take}
-use Rattle.std.proofs.Common.{◌≡◌, refl, ap, ◌∙◌, arith, add-one, ℕ, ◌-◌, ◌≤◌}
+use Rattle.std.proofs.Common.{◌≡◌, refl, ap, ◌∙◌, arith, add-one, ℕ}
 use lib.Seq.{sets, length-sets}
 use Rattle.collector.proofs.Turns.{copied_next}
-use borrow.Author.Rules.{rules}
 use Rattle.collector.proofs.whole.lay.Goals as goal
 
 pub loop-i-init : goal.loop-i-init

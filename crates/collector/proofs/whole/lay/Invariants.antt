@@ -1,9 +1,7 @@
 -- In each turn one cell more of both.
-use lib.ListN.{length, take}
-use Rattle.std.proofs.Common.{◌≡◌, refl, ap, ◌∙◌, arith, add-one, ℕ, ◌-◌, ◌≤◌}
-use lib.Seq.{sets, length-sets}
-use Rattle.collector.proofs.Turns.{copied_next}
-use borrow.Author.Rules.{rules}
+use lib.ListN.{take}
+use Rattle.std.proofs.Common.{◌≡◌, ◌-◌, ◌≤◌}
+use lib.Seq.{sets}
 use Rattle.collector.proofs.whole.lay.Given as goal
 
 abbrev pub invariant-loop-i : goal.invariant-loop-i

@@ -6,7 +6,6 @@ use Rattle.directory.proofs.Flat.{flat}
 use Rattle.own.proofs.Rules.{own_view, own_lent}
 use Rattle.collector.specs.Whole.{whole_in}
 use Rattle.collector.proofs.Rows.{allowed_by}
-use borrow.Author.Rules.{rules}
 use Rattle.collector.proofs.whole.read_whole.Goals as goal
 
 pub with_table-requires : goal.with_table-requires

@@ -3,15 +3,13 @@ use lib.ListN.{length}
 use Rattle.std.proofs.Common.{◌≡◌, sym, ap, ap₂, ◌∙◌, List, ℕ}
 use Rattle.directory.specs.declared.Item.{Item}
 use Rattle.directory.specs.Item.{items}
-use Rattle.directory.specs.Views.{View, view_of}
-use Rattle.replies.specs.declared.Judgement.{Judgement}
+use Rattle.directory.specs.Views.{view_of}
 use Rattle.replies.specs.declared.Judgement.TheVariants.{Items}
 use Rattle.replies.specs.Judged.{judged_in}
 use Rattle.collector.specs.Collector.{item_of}
 use Rattle.collector.specs.Whole.{in_turn, Rows, filled_by}
 use Rattle.collector.proofs.Parts.{DataPart, data_part}
 use Rattle.collector.proofs.Rows.{allowed, allowed_by, whole_coded, whole_refused, whole_items}
-use borrow.Author.Rules.{rules}
 use Rattle.collector.proofs.whole.with_table.Goals as goal
 
 pub judge-judged-requires : goal.judge-judged-requires

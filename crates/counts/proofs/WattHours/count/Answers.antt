@@ -1,7 +1,6 @@
 -- No step is 0.
 use Rattle.std.proofs.Common.{refl, arith}
 use Rattle.ratio.proofs.Steps.{step_laws}
-use borrow.Author.Rules.{rules}
 use Rattle.counts.proofs.WattHours.count.Goals as goal
 
 pub nonzero_div-result : goal.nonzero_div-result

@@ -1,6 +1,5 @@
 -- The remainder by a turn of the register, of the count.
 use Rattle.std.proofs.Common.{refl}
-use borrow.Author.Rules.{rules}
 use Rattle.counts.proofs.WattHours.register.Goals as goal
 
 pub returns : goal.returns

@@ -1,12 +1,10 @@
 -- Each return has its tests behind it, and a law of the definition for them.
-use Rattle.std.proofs.Common.{◌≡◌, sym, ap, ◌∙◌, Bool, true, ℕ}
-use borrow.Author.Tests.{not-true, not-false}
+use Rattle.std.proofs.Common.{◌≡◌, sym, ap, ◌∙◌, true, ℕ}
 use Rattle.meter.specs.declared.Answer.TheVariants.{Accepted}
 use Rattle.meter.specs.Samples.{sample_ok}
 use Rattle.meter.specs.Meters.{meter_t, meter_ok, answer_with}
-use Rattle.meter.specs.After.{next_of, meter_within_top}
+use Rattle.meter.specs.After.{meter_within_top}
 use Rattle.meter.proofs.Cases.{after_1, after_5, after_6, after_accepted}
-use borrow.Author.Rules.{rules}
 use Rattle.meter.proofs.Meter.after.Goals as goal
 
 pub returns-then-not-within : goal.returns-then-not-within

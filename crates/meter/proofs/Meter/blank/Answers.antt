@@ -1,6 +1,5 @@
 -- Each group tells its own part.
 use Rattle.std.proofs.Common.{refl}
-use borrow.Author.Rules.{rules}
 use Rattle.meter.proofs.Meter.blank.Goals as goal
 
 pub returns : goal.returns

@@ -7,7 +7,6 @@ use Rattle.meter.specs.Energies.{with_powers}
 use Rattle.meter.specs.Groups.{code_of}
 use Rattle.meter.specs.Meters.{meter_t, with_counters, with_latest, with_average}
 use Rattle.meter.proofs.Parts.{meter_parts, held_p, held_q, p_most, room}
-use borrow.Author.Rules.{rules}
 use Rattle.meter.proofs.Meter.counted.Goals as goal
 
 pub in_force-p-requires : goal.in_force-p-requires

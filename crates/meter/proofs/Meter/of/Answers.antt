@@ -1,10 +1,9 @@
 -- Each return has its tests behind it.
-use Rattle.std.proofs.Common.{◌≡◌, sym, ◌∙◌, Bool, true, false, arith}
+use Rattle.std.proofs.Common.{◌≡◌, sym, ◌∙◌, true, false, arith}
 use lib.Dec.{eqb}
-use borrow.Author.Tests.{not-true, not-false, eq-eqb, ne_eqb}
+use borrow.Author.Tests.{eq-eqb, ne_eqb}
 use Rattle.ratio.specs.Ratios.{ratios_ok}
 use Rattle.meter.proofs.Cases.{new_3, new_4, new_1, new_made}
-use borrow.Author.Rules.{rules}
 use Rattle.meter.proofs.Meter.of.Goals as goal
 
 pub returns-then-not-within : goal.returns-then-not-within

@@ -1,6 +1,5 @@
 -- Both codes are told, and what a change of them does.
 use Rattle.std.proofs.Common.{refl}
-use borrow.Author.Rules.{rules}
 use Rattle.meter.proofs.Meter.set_up.Goals as goal
 
 pub returns : goal.returns

@@ -1,7 +1,6 @@
 -- Each arm is its line of the definition.
 use Rattle.std.proofs.Common.{sym, ap, ◌∙◌}
 use Rattle.reading.specs.Cells.{cell_of}
-use borrow.Author.Rules.{rules}
 use Rattle.reading.proofs.Quantity.cell.Goals as goal
 
 pub returns-in-SignedPower : goal.returns-in-SignedPower

@@ -1,6 +1,5 @@
 -- Each call tells its part of the definition.
 use Rattle.std.proofs.Common.{refl}
-use borrow.Author.Rules.{rules}
 use Rattle.meter.proofs.energies.Counters.within.Goals as goal
 
 pub returns : goal.returns

@@ -1,7 +1,6 @@
 -- What is above and below zero is at most the magnitude, so both sums have room.
 use Rattle.std.proofs.Common.{refl}
 use Rattle.signed.proofs.Sums.{above_le, below_le}
-use borrow.Author.Rules.{rules}
 use Rattle.meter.proofs.energies.Energies.plus.Goals as goal
 
 pub plus-requires : goal.plus-requires

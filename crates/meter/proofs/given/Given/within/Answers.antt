@@ -1,6 +1,5 @@
 -- The call tells its part of the definition.
 use Rattle.std.proofs.Common.{refl}
-use borrow.Author.Rules.{rules}
 use Rattle.meter.proofs.given.Given.within.Goals as goal
 
 pub returns : goal.returns

@@ -2,7 +2,6 @@
 use mir.Syntax.{w16, w64}
 use mir.Val.{SFits}
 use mir.Facts.{to_z-of_z, sfits_widen}
-use borrow.Author.Rules.{rules}
 use Rattle.meter.proofs.samples.Factor.signed.Goals as goal
 
 pub overflow_cast-self : goal.overflow_cast-self

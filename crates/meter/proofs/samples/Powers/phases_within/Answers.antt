@@ -1,6 +1,5 @@
 -- Each call tells a phase's magnitude, once the machine's bits are read back as the phase.
 use Rattle.std.proofs.Common.{refl}
-use borrow.Author.Rules.{rules}
 use Rattle.signed.proofs.Halves.{back}
 use Rattle.meter.proofs.samples.Powers.phases_within.Goals as goal
 

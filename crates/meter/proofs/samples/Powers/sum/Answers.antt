@@ -1,6 +1,5 @@
 -- Three phases of at most the larger power limit add up far below 2 ^ 63.
 use Rattle.std.proofs.Common.{◌≡◌, ap, ◌∙◌, ◌<◌, ◌^◌, arith}
-use borrow.Author.Rules.{rules}
 use lib.IntN.{ℤ, ◌+ℤ◌}
 use lib.Signed.{mag}
 use mir.Syntax.{w64}

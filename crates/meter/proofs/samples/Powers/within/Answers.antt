@@ -1,7 +1,5 @@
 -- The phases' test comes first; with it the sum may be made, and its test is the rest.
-use Rattle.std.proofs.Common.{◌≡◌, sym, ap, ◌∙◌, Bool, true, ℕ}
-use borrow.Author.Rules.{rules}
-use borrow.Author.Tests.{not-true, not-false}
+use Rattle.std.proofs.Common.{◌≡◌, sym, ap, ◌∙◌, true, ℕ}
 use Rattle.ratio.specs.Powers.{power_limit}
 use Rattle.meter.specs.Samples.{phases_ok}
 use Rattle.meter.proofs.Parts.{phases_held, powers_by}

@@ -1,7 +1,6 @@
 -- Each call tells its part of the definition.
 use Rattle.std.proofs.Common.{refl}
 use Rattle.meter.specs.Samples.{sample_ok}
-use borrow.Author.Rules.{rules}
 use Rattle.meter.proofs.samples.Sample.within.Goals as goal
 
 pub returns : goal.returns
