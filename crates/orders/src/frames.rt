@@ -2,40 +2,47 @@
 use crate::{items, meters, rows};
 use board::{Meter, Reply};
 use collector::{Nameplate, Order};
+use std::io::{self, Stdout};
 
 // A read, and the first item of its reply.
-pub fn first(m: Meter, name: &[u8], request: &[u8]) {
-    exchange(m, name, request, false);
+pub fn first(out: Stdout, m: Meter, name: &[u8], request: &[u8]) -> io::Result<()> {
+    exchange(out, m, name, request, false)
 }
 
 // A read, and all items of its reply by one call.
-pub fn whole(m: Meter, name: &[u8], request: &[u8]) {
-    exchange(m, name, request, true);
+pub fn whole(out: Stdout, m: Meter, name: &[u8], request: &[u8]) -> io::Result<()> {
+    exchange(out, m, name, request, true)
 }
 
-fn exchange(m: Meter, name: &[u8], request: &[u8], whole: bool) {
-    ask::send(m, name, request);
+fn exchange(out: Stdout, m: Meter, name: &[u8], request: &[u8], whole: bool) -> io::Result<()> {
+    ask::send(out, m, name, request)?;
     let mut buffer = [0u8; ask::REPLY_ROOM];
     let handled = board::handle(m, request, &mut buffer);
     let did = handled.reply;
     let Reply::Sent(n) = did else {
-        return;
+        return Ok(());
     };
-    either(request, &buffer[..n], whole);
+    either(out, request, &buffer[..n], whole)
 }
 
-fn either(request: &[u8], reply: &[u8], whole: bool) {
-    say::text(b"  told upper word first: ");
-    told(request, reply, meters::plate(Order::UpperFirst), whole);
-    say::text(b"  told lower word first: ");
-    told(request, reply, meters::plate(Order::LowerFirst), whole);
+fn either(out: Stdout, request: &[u8], reply: &[u8], whole: bool) -> io::Result<()> {
+    say::text(out, b"  told upper word first: ")?;
+    told(out, request, reply, meters::plate(Order::UpperFirst), whole)?;
+    say::text(out, b"  told lower word first: ")?;
+    told(out, request, reply, meters::plate(Order::LowerFirst), whole)
 }
 
-fn told(request: &[u8], reply: &[u8], plate: Nameplate, whole: bool) {
+fn told(
+    out: Stdout,
+    request: &[u8],
+    reply: &[u8],
+    plate: Nameplate,
+    whole: bool,
+) -> io::Result<()> {
     if whole {
-        rows::read(request, reply, plate);
+        rows::read(out, request, reply, plate)?;
     } else {
-        items::read(request, reply, plate);
+        items::read(out, request, reply, plate)?;
     }
-    say::end();
+    say::end(out)
 }

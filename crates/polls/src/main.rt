@@ -4,12 +4,15 @@
 
 mod answers;
 mod joins;
+mod readings;
 mod refusals;
-mod replies;
 
-fn main() {
-    replies::examples();
-    refusals::examples();
-    joins::examples();
-    joins::refusals();
+use std::io;
+
+fn main(rt: HostRuntime) -> io::Result<()> {
+    let out = rt.stdout();
+    readings::examples(out)?;
+    refusals::examples(out)?;
+    joins::examples(out)?;
+    joins::refusals(out)
 }

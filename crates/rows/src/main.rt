@@ -2,15 +2,18 @@
 // printed, and held to the file `stdout`.
 #![tactic(auto)]
 
+mod readings;
 mod refusals;
-mod replies;
 mod rows;
 mod short;
 
-fn main() {
-    replies::registers();
-    replies::other_tables();
-    refusals::examples();
-    refusals::impossible();
-    short::examples();
+use std::io;
+
+fn main(rt: HostRuntime) -> io::Result<()> {
+    let out = rt.stdout();
+    readings::registers(out)?;
+    readings::other_tables(out)?;
+    refusals::examples(out)?;
+    refusals::impossible(out)?;
+    short::examples(out)
 }

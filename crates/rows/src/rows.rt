@@ -2,6 +2,7 @@
 ghost use Rattle.std.specs.Prelude.{◌≤◌};
 
 use collector::{Nameplate, Order, Ratios, Whole};
+use std::io::{self, Stdout};
 
 // No kind has this number, and no item of the examples reads as it: a cell that shows it was not written.
 const VALUE_MARK: u64 = 99;
@@ -21,81 +22,89 @@ pub fn plate(kta: u16, ktv: u16) -> Nameplate {
 }
 
 // Told a KTA and a KTV of 1, with so many cells in both rows.
-pub fn read(name: &[u8], request: &[u8], reply: &[u8], cells: usize)
+pub fn read(out: Stdout, name: &[u8], request: &[u8], reply: &[u8], cells: usize) -> io::Result<()>
     requires { cells ≤ 9 }
 {
-    read_with(name, request, reply, plate(1, 10), cells, cells);
+    read_with(out, name, request, reply, plate(1, 10), cells, cells)
 }
 
 // Told this plate, with room for so many values and so many kinds.
 pub fn read_with(
+    out: Stdout,
     name: &[u8],
     request: &[u8],
     reply: &[u8],
     told: Nameplate,
     values: usize,
     kinds: usize,
-)
+) -> io::Result<()>
     requires { (values ≤ 9) × (kinds ≤ 9) }
 {
     let mut value_cells = [VALUE_MARK; CELLS_MOST];
     let mut kind_cells = [KIND_MARK; CELLS_MOST];
     lent(
+        out,
         name,
         request,
         reply,
         told,
         &mut value_cells[..values],
         &mut kind_cells[..kinds],
-    );
+    )
 }
 
 fn lent(
+    out: Stdout,
     name: &[u8],
     request: &[u8],
     reply: &[u8],
     told: Nameplate,
     values: &mut [u64],
     kinds: &mut [u8],
-) {
-    say::text(name);
-    say::text(b": ");
-    answer(collector::read_whole(request, reply, told, values, kinds));
-    say::text(b"; values");
-    value_row(values);
-    say::text(b"; kinds");
-    kind_row(kinds);
-    say::end();
+) -> io::Result<()> {
+    say::text(out, name)?;
+    say::text(out, b": ")?;
+    answer(
+        out,
+        collector::read_whole(request, reply, told, values, kinds),
+    )?;
+    say::text(out, b"; values")?;
+    value_row(out, values)?;
+    say::text(out, b"; kinds")?;
+    kind_row(out, kinds)?;
+    say::end(out)
 }
 
-fn answer(whole: Whole) {
+fn answer(out: Stdout, whole: Whole) -> io::Result<()> {
     match whole {
-        Whole::Items(n) => say::field(b"items ", n as u64),
-        Whole::Error(code) => say::error(code),
-        Whole::Refused(reason) => say::refused(reason),
+        Whole::Items(n) => say::field(out, b"items ", n as u64),
+        Whole::Error(code) => say::error(out, code),
+        Whole::Refused(reason) => say::refused(out, reason),
     }
 }
 
-fn value_row(row: &[u64]) {
+fn value_row(out: Stdout, row: &[u64]) -> io::Result<()> {
     let mut i: usize = 0;
     while i < row.len() {
-        value(row[i]);
+        value(out, row[i])?;
         i += 1;
     }
+    Ok(())
 }
 
-fn kind_row(row: &[u8]) {
+fn kind_row(out: Stdout, row: &[u8]) -> io::Result<()> {
     let mut i: usize = 0;
     while i < row.len() {
-        kind(row[i]);
+        kind(out, row[i])?;
         i += 1;
     }
+    Ok(())
 }
 
-fn value(n: u64) {
-    say::field(b" ", n);
+fn value(out: Stdout, n: u64) -> io::Result<()> {
+    say::field(out, b" ", n)
 }
 
-fn kind(n: u8) {
-    value(n as u64);
+fn kind(out: Stdout, n: u8) -> io::Result<()> {
+    value(out, n as u64)
 }
