@@ -47,13 +47,18 @@ fn wrong(m: Meter, code: ErrorCode) -> Written
     }
 }
 
+// How many words each setup group has.
+const STANDARD_WORDS: u16 = 16;
+
+const OUTPUT_WORDS: u16 = 24;
+
 // A write to the 16 words from 0x2000 on.
 fn write_standard(m: Meter, frame: &[u8]) -> Written
     requires { (write_shaped frame.now ≡ true) × (to_standard frame.now ≡ true) }
     ensures { result ≡ written_of m frame.now }
 {
     let mut group = [0u16; 16];
-    if words::word_at(frame, modbus::WORDS_AT) != 16 {
+    if words::word_at(frame, modbus::WORDS_AT) != STANDARD_WORDS {
         return wrong(m, ErrorCode::Data);
     }
     modbus::values(frame, &mut group);
@@ -80,7 +85,7 @@ fn write_output(m: Meter, frame: &[u8]) -> Written
     ensures { result ≡ written_of m frame.now }
 {
     let mut group = [0u16; 24];
-    if words::word_at(frame, modbus::WORDS_AT) != 24 {
+    if words::word_at(frame, modbus::WORDS_AT) != OUTPUT_WORDS {
         return wrong(m, ErrorCode::Data);
     }
     modbus::values(frame, &mut group);

@@ -4,7 +4,7 @@ use Rattle.std.proofs.Math.Bool.{and-eq-true_iff}
 use borrow.Author.Tests.{eq-eqb, ne_eqb, not-true}
 use Rattle.modbus.proofs.Frames.{Heeded, heeded}
 use Rattle.own.specs.Own.{own}
-use Rattle.modbus.specs.Frame.{silence}
+use Rattle.modbus.specs.Frame.{address_of, silence}
 use Rattle.board.specs.Board.{Outcome, obeyed_in, address_for, view_for}
 use Rattle.board.proofs.Cases.{allowed, unwritten, read_sent, other_sent}
 use Rattle.board.proofs.obey.Goals as goal
@@ -37,7 +37,8 @@ bounds-frame-0 c =
 
 pub returns-then-frame-eq-BROADCAST : goal.returns-then-frame-eq-BROADCAST
 returns-then-frame-eq-BROADCAST c =
-    let b = allowed (unwritten (view_for own c.args.tenant) (not c.args.tenant) c.args.meter c.args.frame.now c.args.buffer.now c.if-tenant-frame.false c.if-frame-eq-BROADCAST.true) in
+    let to_all : address_of c.args.frame.now ≡ 0 = omega arith in
+    let b = allowed (unwritten (view_for own c.args.tenant) (not c.args.tenant) c.args.meter c.args.frame.now c.args.buffer.now c.if-tenant-frame.false to_all) in
     record { handled = c.hand_back.ensures ∙ b.handled; bytes = b.bytes }
 
 pub bounds-frame-1-2 : goal.bounds-frame-1-2
@@ -60,9 +61,9 @@ put_error-length-requires c =
 pub returns-then-frame-eq-READ_HOLDING_REGISTERS : goal.returns-then-frame-eq-READ_HOLDING_REGISTERS
 returns-then-frame-eq-READ_HOLDING_REGISTERS c =
     let e = c.read-length.ensures in
-    allowed (read_sent (view_for own c.args.tenant) (not c.args.tenant) c.args.meter c.args.frame.now c.args.buffer.now (eq-eqb _ _ c.if-frame-eq-READ_HOLDING_REGISTERS.true) c.if-frame-eq-BROADCAST.false _ _ e.value e.buffer_after)
+    allowed (read_sent (view_for own c.args.tenant) (not c.args.tenant) c.args.meter c.args.frame.now c.args.buffer.now (eq-eqb _ _ c.if-frame-eq-READ_HOLDING_REGISTERS.true) (λ z. omega (arith, z)) _ _ e.value e.buffer_after)
 
 pub returns-else-frame-eq-READ_HOLDING_REGISTERS : goal.returns-else-frame-eq-READ_HOLDING_REGISTERS
 returns-else-frame-eq-READ_HOLDING_REGISTERS c =
     let e = c.put_error-length.ensures in
-    allowed (other_sent (view_for own c.args.tenant) (not c.args.tenant) c.args.meter c.args.frame.now c.args.buffer.now (ne_eqb _ _ c.if-frame-eq-READ_HOLDING_REGISTERS.false) c.if-tenant-frame.false c.if-frame-eq-BROADCAST.false _ _ e.value e.buffer_after)
+    allowed (other_sent (view_for own c.args.tenant) (not c.args.tenant) c.args.meter c.args.frame.now c.args.buffer.now (ne_eqb _ _ c.if-frame-eq-READ_HOLDING_REGISTERS.false) c.if-tenant-frame.false (λ z. omega (arith, z)) _ _ e.value e.buffer_after)

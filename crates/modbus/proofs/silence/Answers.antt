@@ -1,6 +1,7 @@
 -- The rules are looked at in another order than the paper has them, which makes no difference to whether one of them holds.
 use Rattle.std.proofs.Common.{arith}
 use borrow.Author.Tests.{le-leb, lt-leb}
+use Rattle.modbus.specs.Frame.{function_of}
 use Rattle.modbus.proofs.Frames.{by_length, by_address, by_function, by_crc, long_enough}
 use Rattle.modbus.proofs.silence.Goals as goal
 
@@ -19,10 +20,10 @@ bounds-frame-1 c =
     omega (arith, long_enough c.args.own c.args.frame.now c.if-n.false)
 
 pub returns-then-frame-ge-ERROR_FLAG : goal.returns-then-frame-ge-ERROR_FLAG
-returns-then-frame-ge-ERROR_FLAG c = by_function c.args.own c.args.frame.now (le-leb _ _ c.if-frame-ge-ERROR_FLAG.true)
+returns-then-frame-ge-ERROR_FLAG c = by_function c.args.own c.args.frame.now (le-leb 0x80 (function_of c.args.frame.now) (omega arith))
 
 pub returns : goal.returns
 returns c =
     let a = c.args in
-    let quiet = by_crc a.own a.frame.now c.if-n.false c.if-address-own.false (lt-leb _ _ c.if-frame-ge-ERROR_FLAG.false) in
+    let quiet = by_crc a.own a.frame.now c.if-n.false c.if-address-own.false (lt-leb 0x80 (function_of a.frame.now) (omega arith)) in
     rw c.intact.ensures quiet

@@ -13,17 +13,17 @@ use Rattle.store.proofs.write_output.Goals as goal
 pub word_at-requires : goal.word_at-requires
 word_at-requires c = omega (arith, (shaped_length c.args.frame.now c.requires.0).0)
 
-pub returns-then-word_at-ne24 : goal.returns-then-word_at-ne24
-returns-then-word_at-ne24 c = c.wrong.ensures ∙ not_24 c.args.m c.args.frame.now c.requires.0 c.requires.1 c.requires.2 (λ e. c.if-word_at-ne24.true (c.word_at.ensures ∙ e))
+pub returns-then-word_at-ne-OUTPUT_WORDS : goal.returns-then-word_at-ne-OUTPUT_WORDS
+returns-then-word_at-ne-OUTPUT_WORDS c = c.wrong.ensures ∙ not_24 c.args.m c.args.frame.now c.requires.0 c.requires.1 c.requires.2 (λ e. c.if-word_at-ne-OUTPUT_WORDS.true (c.word_at.ensures ∙ e))
 
 pub values-requires : goal.values-requires
 values-requires c =
-    let number : word_number c.args.frame.now ≡ 24 = sym c.word_at.ensures ∙ c.if-word_at-ne24.false in
+    let number : word_number c.args.frame.now ≡ 24 = sym c.word_at.ensures ∙ c.if-word_at-ne-OUTPUT_WORDS.false in
     omega (arith, (shaped_length c.args.frame.now c.requires.0).1, number)
 
 pub returns-then-not-output_ok : goal.returns-then-not-output_ok
 returns-then-not-output_ok c =
-    let number : word_number c.args.frame.now ≡ 24 = sym c.word_at.ensures ∙ c.if-word_at-ne24.false in
+    let number : word_number c.args.frame.now ≡ 24 = sym c.word_at.ensures ∙ c.if-word_at-ne-OUTPUT_WORDS.false in
     let stored : c.values.new.into ≡ write_values c.args.frame.now = let frame = c.args.frame.now in
     c.values.ensures ∙ ap (λ (k : ℕ). words_at k frame 7) (sym number) in
     let n = number in
@@ -31,7 +31,7 @@ returns-then-not-output_ok c =
 
 pub returns : goal.returns
 returns c =
-    let number : word_number c.args.frame.now ≡ 24 = sym c.word_at.ensures ∙ c.if-word_at-ne24.false in
+    let number : word_number c.args.frame.now ≡ 24 = sym c.word_at.ensures ∙ c.if-word_at-ne-OUTPUT_WORDS.false in
     let stored : c.values.new.into ≡ write_values c.args.frame.now = let frame = c.args.frame.now in
     c.values.ensures ∙ ap (λ (k : ℕ). words_at k frame 7) (sym number) in
     let n = number in

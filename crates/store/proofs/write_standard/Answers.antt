@@ -13,17 +13,17 @@ use Rattle.store.proofs.write_standard.Goals as goal
 pub word_at-requires : goal.word_at-requires
 word_at-requires c = omega (arith, (shaped_length c.args.frame.now c.requires.0).0)
 
-pub returns-then-word_at-ne16 : goal.returns-then-word_at-ne16
-returns-then-word_at-ne16 c = c.wrong.ensures ∙ not_16 c.args.m c.args.frame.now c.requires.0 c.requires.1 (λ e. c.if-word_at-ne16.true (c.word_at.ensures ∙ e))
+pub returns-then-word_at-ne-STANDARD_WORDS : goal.returns-then-word_at-ne-STANDARD_WORDS
+returns-then-word_at-ne-STANDARD_WORDS c = c.wrong.ensures ∙ not_16 c.args.m c.args.frame.now c.requires.0 c.requires.1 (λ e. c.if-word_at-ne-STANDARD_WORDS.true (c.word_at.ensures ∙ e))
 
 pub values-requires : goal.values-requires
 values-requires c =
-    let number : word_number c.args.frame.now ≡ 16 = sym c.word_at.ensures ∙ c.if-word_at-ne16.false in
+    let number : word_number c.args.frame.now ≡ 16 = sym c.word_at.ensures ∙ c.if-word_at-ne-STANDARD_WORDS.false in
     omega (arith, (shaped_length c.args.frame.now c.requires.0).1, number)
 
 pub returns-then-not-standard_ok : goal.returns-then-not-standard_ok
 returns-then-not-standard_ok c =
-    let number : word_number c.args.frame.now ≡ 16 = sym c.word_at.ensures ∙ c.if-word_at-ne16.false in
+    let number : word_number c.args.frame.now ≡ 16 = sym c.word_at.ensures ∙ c.if-word_at-ne-STANDARD_WORDS.false in
     let stored : c.values.new.into ≡ write_values c.args.frame.now = let frame = c.args.frame.now in
     c.values.ensures ∙ ap (λ (k : ℕ). words_at k frame 7) (sym number) in
     let n = number in
@@ -31,7 +31,7 @@ returns-then-not-standard_ok c =
 
 pub returns : goal.returns
 returns c =
-    let number : word_number c.args.frame.now ≡ 16 = sym c.word_at.ensures ∙ c.if-word_at-ne16.false in
+    let number : word_number c.args.frame.now ≡ 16 = sym c.word_at.ensures ∙ c.if-word_at-ne-STANDARD_WORDS.false in
     let stored : c.values.new.into ≡ write_values c.args.frame.now = let frame = c.args.frame.now in
     c.values.ensures ∙ ap (λ (k : ℕ). words_at k frame 7) (sym number) in
     let n = number in
