@@ -84,9 +84,9 @@ fn hand_back(meter: Meter, reply: Reply) -> Handled
 // Carries out a frame that the meter heeds. Of the frames for all meters only a write has any effect; a tenant's write is a function
 // that it does not know.
 fn obey(meter: Meter, tenant: bool, frame: &[u8], buffer: &mut [u8]) -> Handled
-    requires meter_value { meter_ok meter ≡ true }
-    requires frame_value { silence (address_for meter.given tenant) frame.now ≡ false }
-    requires in_bounds { 256 ≤ length buffer.old }
+    requires within_limits { meter_ok meter ≡ true }
+    requires not_silent { silence (address_for meter.given tenant) frame.now ≡ false }
+    requires room { 256 ≤ length buffer.old }
     ensures { Allowed (obeyed_in (view_for own tenant) (not tenant) meter frame.now buffer.old) result buffer.new }
 {
     if !tenant & (frame[1] == modbus::WRITE_MULTIPLE_REGISTERS) {
@@ -108,9 +108,9 @@ fn obey(meter: Meter, tenant: bool, frame: &[u8], buffer: &mut [u8]) -> Handled
 
 // Stores a write, and answers it unless it is for all meters.
 fn write(meter: Meter, frame: &[u8], buffer: &mut [u8]) -> Handled
-    requires frame_value { silence meter.given.address frame.now ≡ false }
-    requires frame_value_2 { is_write frame.now ≡ true }
-    requires in_bounds { 256 ≤ length buffer.old }
+    requires not_silent { silence meter.given.address frame.now ≡ false }
+    requires asks_a_write { is_write frame.now ≡ true }
+    requires room { 256 ≤ length buffer.old }
     ensures { Allowed (obeyed_in own true meter frame.now buffer.old) result buffer.new }
 {
     let written = store::write(meter, frame);

@@ -18,9 +18,9 @@ use own::table;
 
 // Puts the reply to a tenant, or to any other, at the start of the buffer, and answers its length.
 pub(crate) fn read(tenant: bool, m: Meter, frame: &[u8], buffer: &mut [u8]) -> usize
-    requires m_value { meter_ok m ≡ true }
-    requires in_bounds { (2 ≤ length frame.now) × (function_of frame.now < 0x80) }
-    requires in_bounds_2 { 256 ≤ length buffer.old }
+    requires within_limits { meter_ok m ≡ true }
+    requires function_below_0x80 { (2 ≤ length frame.now) × (function_of frame.now < 0x80) }
+    requires room { 256 ≤ length buffer.old }
     ensures value { result ≡ length (read_reply (view_for own tenant) m.given.order (shown_of m) frame.now) }
     ensures buffer_after { buffer.new ≡ sets buffer.old 0 (read_reply (view_for own tenant) m.given.order (shown_of m) frame.now) }
 {
@@ -41,9 +41,9 @@ fn reach_for(tenant: bool) -> Reach
 // The same with the table lent: each use of the constant's name copies the whole table onto the stack.
 fn with_table(table: &[u16], reach: Reach, m: Meter, frame: &[u8], buffer: &mut [u8]) -> usize
     requires lent { Lent table.now reach }
-    requires m_value { meter_ok m ≡ true }
-    requires in_bounds { (2 ≤ length frame.now) × (function_of frame.now < 0x80) }
-    requires in_bounds_2 { 256 ≤ length buffer.old }
+    requires within_limits { meter_ok m ≡ true }
+    requires function_below_0x80 { (2 ≤ length frame.now) × (function_of frame.now < 0x80) }
+    requires room { 256 ≤ length buffer.old }
     ensures value { result ≡ length (read_reply (view_of table.now reach) m.given.order (shown_of m) frame.now) }
     ensures buffer_after { buffer.new ≡ sets buffer.old 0 (read_reply (view_of table.now reach) m.given.order (shown_of m) frame.now) }
 {
@@ -58,10 +58,10 @@ fn with_table(table: &[u16], reach: Reach, m: Meter, frame: &[u8], buffer: &mut 
 
 // Puts the data reply to a read of the items `asked`, which are a part of the table, and answers its length.
 fn put_data(asked: &[u16], m: Meter, frame: &[u8], buffer: &mut [u8]) -> usize
-    requires t { T (every narrow (items asked.now)) }
-    requires m_value { meter_ok m ≡ true }
-    requires frame_len { (length frame.now ≡ 8) × (words_of (items asked.now) ≡ word_number frame.now) }
-    requires frame_bound { (5 + 2 * word_number frame.now ≤ 256) × (256 ≤ length buffer.old) }
+    requires items_narrow { T (every narrow (items asked.now)) }
+    requires within_limits { meter_ok m ≡ true }
+    requires words_as_asked { (length frame.now ≡ 8) × (words_of (items asked.now) ≡ word_number frame.now) }
+    requires room { (5 + 2 * word_number frame.now ≤ 256) × (256 ≤ length buffer.old) }
     ensures value { result ≡ length (data_reply frame.now (items_sent m.given.order (shown_of m) (items asked.now))) }
     ensures buffer_after { buffer.new ≡ sets buffer.old 0 (data_reply frame.now (items_sent m.given.order (shown_of m) (items asked.now))) }
 {
@@ -75,9 +75,9 @@ fn put_data(asked: &[u16], m: Meter, frame: &[u8], buffer: &mut [u8]) -> usize
 
 // Puts the words of the items behind the head of a data reply, and answers where they end.
 fn put_items(asked: &[u16], m: Meter, buffer: &mut [u8]) -> usize
-    requires t { T (every narrow (items asked.now)) }
-    requires m_value { meter_ok m ≡ true }
-    requires asked_in_bounds { 3 + 2 * words_of (items asked.now) ≤ length buffer.old }
+    requires items_narrow { T (every narrow (items asked.now)) }
+    requires within_limits { meter_ok m ≡ true }
+    requires room { 3 + 2 * words_of (items asked.now) ≤ length buffer.old }
     ensures value { result ≡ 3 + 2 * words_of (items asked.now) }
     ensures buffer_after { buffer.new ≡ sets buffer.old 3 (items_sent m.given.order (shown_of m) (items asked.now)) }
 {

@@ -64,8 +64,8 @@ fn with_table(
 
 // The reading of one item, from a data reply that fits the request.
 fn item(asked: &[u16], reply: &[u8], order: Order, tenths: u32, index: usize) -> Answer
-    requires t { T (every shaped (items asked.now)) × T (every meant (items asked.now)) }
-    requires asked_in_bounds { 3 + 2 * words_of (items asked.now) ≤ length reply.now }
+    requires items_ruled { T (every shaped (items asked.now)) × T (every meant (items asked.now)) }
+    requires data_in_reply { 3 + 2 * words_of (items asked.now) ≤ length reply.now }
     ensures { result ≡ item_of order tenths (items asked.now) reply.now index }
 {
     if asked.len() / directory::NUMBERS_PER_ITEM <= index {
@@ -79,8 +79,8 @@ fn item(asked: &[u16], reply: &[u8], order: Order, tenths: u32, index: usize) ->
 
 // Where the words of an item start in a data reply: behind those of the items before it.
 fn place(asked: &[u16], index: usize) -> usize
-    requires t { T (every shaped (items asked.now)) }
-    requires index_in_bounds { index ≤ length (items asked.now) }
+    requires items_shaped { T (every shaped (items asked.now)) }
+    requires index_within { index ≤ length (items asked.now) }
     ensures { result ≡ place_of (items asked.now) index }
 {
     let mut at = modbus::DATA_HEAD;

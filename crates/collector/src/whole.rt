@@ -86,8 +86,8 @@ fn fill(
     values: &mut [u64],
     kinds: &mut [u8],
 ) -> Whole
-    requires t { T (every shaped (items asked.now)) × T (every meant (items asked.now)) }
-    requires asked_in_bounds { (3 + 2 * words_of (items asked.now) ≤ length reply.now) × (words_of (items asked.now) ≤ 125) }
+    requires items_ruled { T (every shaped (items asked.now)) × T (every meant (items asked.now)) }
+    requires data_in_reply { (3 + 2 * words_of (items asked.now) ≤ length reply.now) × (words_of (items asked.now) ≤ 125) }
     ensures { Filled (filled_by (in_turn (length (items asked.now)) (item_of order tenths (items asked.now) reply.now)) values.old kinds.old) result values.new kinds.new }
 {
     let n = asked.len() / directory::NUMBERS_PER_ITEM;
@@ -112,9 +112,9 @@ fn all_read(
     cells: &mut [u64],
     numbers: &mut [u8],
 ) -> bool
-    requires t { T (every shaped (items asked.now)) × T (every meant (items asked.now)) }
-    requires asked_in_bounds { 3 + 2 * words_of (items asked.now) ≤ length reply.now }
-    requires asked_in_bounds_2 { (length (items asked.now) ≤ length cells.old) × (length (items asked.now) ≤ length numbers.old) }
+    requires items_ruled { T (every shaped (items asked.now)) × T (every meant (items asked.now)) }
+    requires data_in_reply { 3 + 2 * words_of (items asked.now) ≤ length reply.now }
+    requires rows_have_room { (length (items asked.now) ≤ length cells.old) × (length (items asked.now) ≤ length numbers.old) }
     ensures value { result ≡ not (any_thirteen (in_turn (length (items asked.now)) (item_of order tenths (items asked.now) reply.now))) }
     ensures cells_after { result ≡ true → cells.new ≡ sets cells.old 0 (map cell_of (readings_in (in_turn (length (items asked.now)) (item_of order tenths (items asked.now) reply.now)))) }
     ensures numbers_after { result ≡ true → numbers.new ≡ sets numbers.old 0 (map kind_of (readings_in (in_turn (length (items asked.now)) (item_of order tenths (items asked.now) reply.now)))) }
@@ -139,8 +139,8 @@ fn all_read(
 
 // Lays the first `n` of both out in the rows.
 fn lay(cells: &[u64], numbers: &[u8], n: usize, values: &mut [u64], kinds: &mut [u8])
-    requires n_in_bounds { (n ≤ length cells.now) × (n ≤ length numbers.now) }
-    requires n_in_bounds_2 { (n ≤ length values.old) × (n ≤ length kinds.old) }
+    requires as_many_laid_out { (n ≤ length cells.now) × (n ≤ length numbers.now) }
+    requires rows_have_room { (n ≤ length values.old) × (n ≤ length kinds.old) }
     ensures values_after { values.new ≡ sets values.old 0 (take n cells.now) }
     ensures kinds_after { kinds.new ≡ sets kinds.old 0 (take n numbers.now) }
 {

@@ -59,7 +59,8 @@ module _ (m : Meter) (s : Sample) where
         SampleGives (refused_by 6) ↔ ((meter_ok m ≡ true) × (sample_ok (meter_t m) s ≡ true) × (meter_within_top (next_of m s) ≡ false))
     pub only : (n : ℕ) → SampleGives (refused_by n) → (n ≡ 1) ⊎ (n ≡ 5) ⊎ (n ≡ 6)
     pub accepted :
-        ((after_of m s).answer ≡ Accepted) ↔ ((meter_ok m ≡ true) × (sample_ok (meter_t m) s ≡ true) × (meter_within_top (next_of m s) ≡ true))
+        ((after_of m s).answer ≡ Accepted) ↔
+        ((meter_ok m ≡ true) × (sample_ok (meter_t m) s ≡ true) × (meter_within_top (next_of m s) ≡ true))
     pub refused : (reason : Refusal) → (after_of m s).answer ≡ Refused reason → (after_of m s).meter ≡ m
     pub counted : (after_of m s).answer ≡ Accepted → (after_of m s).meter ≡ next_of m s
 

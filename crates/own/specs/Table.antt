@@ -60,7 +60,8 @@ word_blocks =
     -- P, Q, S; signs; +Ea, +Er, -Ea, -Er
     word_l 0x1014 power P ∷ word_l 0x1016 power Q ∷ word_l 0x1018 power S ∷
     word_w 0x101a sign P ∷ word_w 0x101b sign Q ∷
-    word_l 0x101c energy_count pos_ea ∷ word_l 0x101e energy_count pos_er ∷ word_l 0x1020 energy_count neg_ea ∷ word_l 0x1022 energy_count neg_er ∷
+    word_l 0x101c energy_count pos_ea ∷ word_l 0x101e energy_count pos_er ∷
+    word_l 0x1020 energy_count neg_ea ∷ word_l 0x1022 energy_count neg_er ∷
     -- power factor in hundredths, sector, frequency
     word_w 0x1024 factor hundredths ∷ word_w 0x1025 sector only ∷ word_w 0x1026 frequency only ∷
     -- request 1: average, peak, minutes

@@ -127,8 +127,8 @@ const TOP_IN_THOUSANDTHS: u64 = 1_000;
 // What an item of that value reads as, at a ratio of t tenths. A kind of two bytes or one stands in one word alone, so its value
 // is a u16.
 pub fn of(t: u32, it: Item, value: u32) -> Answer
-    requires it_value { (shaped it ≡ true) × (meant it ≡ true) }
-    requires value_bound { value < 65536 ^ it.words }
+    requires item_ruled { (shaped it ≡ true) × (meant it ≡ true) }
+    requires value_fits { value < 65536 ^ it.words }
     ensures { result ≡ reading_of t it value }
 {
     if it.is_b() & (255 < value) {

@@ -70,7 +70,7 @@ fn run(input: &[u8], text: &mut [u8]) -> usize
 // Puts the answer to a line at a place of the text.
 fn answer(meter: Meter, line: &[u8], text: &mut [u8], at: usize) -> Told
     requires { at + length (line_text meter line.now) < length text.old }
-    ensures meter_value { (result.meter ≡ meter_after meter line.now) × (result.end ≡ at + length (line_text meter line.now)) }
+    ensures meter_and_end { (result.meter ≡ meter_after meter line.now) × (result.end ≡ at + length (line_text meter line.now)) }
     ensures text_after { text.new ≡ sets text.old at (line_text meter line.now) }
 {
     let mut frame = [0u8; FRAME_ROOM];
@@ -88,8 +88,8 @@ fn answer(meter: Meter, line: &[u8], text: &mut [u8], at: usize) -> Told
 
 // Puts the reply, or that there is none. The meter refuses nothing here: its record is within limits and the buffer has room.
 fn tell(did: Reply, reply: &[u8], text: &mut [u8], at: usize) -> usize
-    requires by_index { (n : ℕ) → did ≡ Sent n → n ≤ length reply.now }
-    requires reply_in_bounds { at + length (reply_text did reply.now) < length text.old }
+    requires reply_within { (n : ℕ) → did ≡ Sent n → n ≤ length reply.now }
+    requires room { at + length (reply_text did reply.now) < length text.old }
     ensures value { result ≡ at + length (reply_text did reply.now) }
     ensures text_after { text.new ≡ sets text.old at (reply_text did reply.now) }
 {

@@ -34,21 +34,19 @@ pub returns-then-silence : goal.returns-then-silence
 returns-then-silence c =
     let within : meter_ok c.args.meter ≡ true = sym c.within.ensures ∙ c.if-not-within.false in
     let room : ltb (length c.args.buffer.now) 256 ≡ false = le-ltb _ _ c.if-buffer-lt-FRAME_MOST.false in
-    let s = c in
-    let b = allowed (board_silent own s.args.meter s.args.frame.now s.args.buffer.now within room (heard c.args.meter.given c.args.frame.now _ _ _ c.address_for.ensures c.silence.ensures c.to_second-tenant.ensures c.if-silence.true)) in
+    let b = allowed (board_silent own c.args.meter c.args.frame.now c.args.buffer.now within room (heard c.args.meter.given c.args.frame.now _ _ _ c.address_for.ensures c.silence.ensures c.to_second-tenant.ensures c.if-silence.true)) in
     record { handled = c.hand_back-then-silence.ensures ∙ b.handled; bytes = b.bytes }
 
 pub obey-requires : goal.obey-requires
 obey-requires c =
     let within : meter_ok c.args.meter ≡ true = sym c.within.ensures ∙ c.if-not-within.false in
-    record { meter_value = within; frame_value = judged c.args.meter.given c.args.frame.now _ _ _ c.address_for.ensures c.silence.ensures c.if-silence.false; in_bounds = c.if-buffer-lt-FRAME_MOST.false }
+    record { within_limits = within; not_silent = judged c.args.meter.given c.args.frame.now _ _ _ c.address_for.ensures c.silence.ensures c.if-silence.false; room = c.if-buffer-lt-FRAME_MOST.false }
 
 pub returns : goal.returns
 returns c =
     let within : meter_ok c.args.meter ≡ true = sym c.within.ensures ∙ c.if-not-within.false in
     let room : ltb (length c.args.buffer.now) 256 ≡ false = le-ltb _ _ c.if-buffer-lt-FRAME_MOST.false in
-    let s = c in
-    let b = board_obeys own s.args.meter s.args.frame.now s.args.buffer.now within room (heard c.args.meter.given c.args.frame.now _ _ _ c.address_for.ensures c.silence.ensures c.to_second-tenant.ensures c.if-silence.false) in
-    let same = ap (λ (t : Bool). obeyed_in (view_for own t) (not t) s.args.meter s.args.frame.now s.args.buffer.now) c.to_second-tenant.ensures ∙ b in
+    let b = board_obeys own c.args.meter c.args.frame.now c.args.buffer.now within room (heard c.args.meter.given c.args.frame.now _ _ _ c.address_for.ensures c.silence.ensures c.to_second-tenant.ensures c.if-silence.false) in
+    let same = ap (λ (t : Bool). obeyed_in (view_for own t) (not t) c.args.meter c.args.frame.now c.args.buffer.now) c.to_second-tenant.ensures ∙ b in
     let e = c.obey.ensures in
     record { handled = e.handled ∙ (allowed same).handled; bytes = e.bytes ∙ (allowed same).bytes }

@@ -15,13 +15,13 @@ no_tenant tenant w h = not-true _ ((and-eq-true_iff (not tenant) w).0 h).0
 
 pub bounds-frame-1 : goal.bounds-frame-1
 bounds-frame-1 c =
-    let heard : Heeded (address_for c.args.meter.given c.args.tenant) c.args.frame.now = heeded (address_for c.args.meter.given c.args.tenant) c.args.frame.now c.requires.frame_value in
+    let heard : Heeded (address_for c.args.meter.given c.args.tenant) c.args.frame.now = heeded (address_for c.args.meter.given c.args.tenant) c.args.frame.now c.requires.not_silent in
     omega (arith, heard.least)
 
 pub write-requires : goal.write-requires
 write-requires c =
     let own-one = no_tenant c.args.tenant _ c.if-tenant-frame.true in
-    record { frame_value = ap (λ (t : Bool). silence (address_for c.args.meter.given t) c.args.frame.now) (sym own-one) ∙ c.requires.frame_value; frame_value_2 = ((and-eq-true_iff (not c.args.tenant) _).0 c.if-tenant-frame.true).1; in_bounds = c.requires.in_bounds }
+    record { not_silent = ap (λ (t : Bool). silence (address_for c.args.meter.given t) c.args.frame.now) (sym own-one) ∙ c.requires.not_silent; asks_a_write = ((and-eq-true_iff (not c.args.tenant) _).0 c.if-tenant-frame.true).1; room = c.requires.room }
 
 pub returns-then-tenant-frame : goal.returns-then-tenant-frame
 returns-then-tenant-frame c =
@@ -32,7 +32,7 @@ returns-then-tenant-frame c =
 
 pub bounds-frame-0 : goal.bounds-frame-0
 bounds-frame-0 c =
-    let heard : Heeded (address_for c.args.meter.given c.args.tenant) c.args.frame.now = heeded (address_for c.args.meter.given c.args.tenant) c.args.frame.now c.requires.frame_value in
+    let heard : Heeded (address_for c.args.meter.given c.args.tenant) c.args.frame.now = heeded (address_for c.args.meter.given c.args.tenant) c.args.frame.now c.requires.not_silent in
     omega (arith, heard.least)
 
 pub returns-then-frame-eq-BROADCAST : goal.returns-then-frame-eq-BROADCAST
@@ -43,20 +43,18 @@ returns-then-frame-eq-BROADCAST c =
 
 pub bounds-frame-1-2 : goal.bounds-frame-1-2
 bounds-frame-1-2 c =
-    let heard : Heeded (address_for c.args.meter.given c.args.tenant) c.args.frame.now = heeded (address_for c.args.meter.given c.args.tenant) c.args.frame.now c.requires.frame_value in
+    let heard : Heeded (address_for c.args.meter.given c.args.tenant) c.args.frame.now = heeded (address_for c.args.meter.given c.args.tenant) c.args.frame.now c.requires.not_silent in
     omega (arith, heard.least)
 
 pub read-length-requires : goal.read-length-requires
 read-length-requires c =
-    let heard : Heeded (address_for c.args.meter.given c.args.tenant) c.args.frame.now = heeded (address_for c.args.meter.given c.args.tenant) c.args.frame.now c.requires.frame_value in
-    let h = heard in
-    record { m_value = c.requires.meter_value; in_bounds = (omega (arith, h.least), h.low); in_bounds_2 = c.requires.in_bounds }
+    let heard : Heeded (address_for c.args.meter.given c.args.tenant) c.args.frame.now = heeded (address_for c.args.meter.given c.args.tenant) c.args.frame.now c.requires.not_silent in
+    record { within_limits = c.requires.within_limits; function_below_0x80 = (omega (arith, heard.least), heard.low); room = c.requires.room }
 
 pub put_error-length-requires : goal.put_error-length-requires
 put_error-length-requires c =
-    let heard : Heeded (address_for c.args.meter.given c.args.tenant) c.args.frame.now = heeded (address_for c.args.meter.given c.args.tenant) c.args.frame.now c.requires.frame_value in
-    let h = heard in
-    (omega (arith, h.least), h.low, c.requires.in_bounds)
+    let heard : Heeded (address_for c.args.meter.given c.args.tenant) c.args.frame.now = heeded (address_for c.args.meter.given c.args.tenant) c.args.frame.now c.requires.not_silent in
+    (omega (arith, heard.least), heard.low, c.requires.room)
 
 pub returns-then-frame-eq-READ_HOLDING_REGISTERS : goal.returns-then-frame-eq-READ_HOLDING_REGISTERS
 returns-then-frame-eq-READ_HOLDING_REGISTERS c =

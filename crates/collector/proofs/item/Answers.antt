@@ -17,7 +17,7 @@ returns-then-asked-index c = item_past c.args.order c.args.tenths (items c.args.
 pub place-at-requires : goal.place-at-requires
 place-at-requires c =
     let below : c.args.index < length (items c.args.asked.now) = omega (arith, items_length c.args.asked.now) in
-    record { t = c.requires.t.0; index_in_bounds = omega (arith, below) }
+    record { items_shaped = c.requires.items_ruled.0; index_within = omega (arith, below) }
 
 pub item_at-it-requires : goal.item_at-it-requires
 item_at-it-requires c =
@@ -27,16 +27,15 @@ item_at-it-requires c =
 pub value_at-value-requires : goal.value_at-value-requires
 value_at-value-requires c =
     let below : c.args.index < length (items c.args.asked.now) = omega (arith, items_length c.args.asked.now) in
-    let found : Known (items c.args.asked.now) c.args.reply.now c.args.index c.place-at.result c.item_at-it.result = known (items c.args.asked.now) c.args.reply.now c.requires.t c.requires.asked_in_bounds c.args.index _ _ below c.place-at.ensures c.item_at-it.ensures in
+    let found : Known (items c.args.asked.now) c.args.reply.now c.args.index c.place-at.result c.item_at-it.result = known (items c.args.asked.now) c.args.reply.now c.requires.items_ruled c.requires.data_in_reply c.args.index _ _ below c.place-at.ensures c.item_at-it.ensures in
     let k = found in (k.room, (k.narrow.some, k.narrow.few))
 
 pub of-requires : goal.of-requires
 of-requires c =
     let below : c.args.index < length (items c.args.asked.now) = omega (arith, items_length c.args.asked.now) in
-    let found : Known (items c.args.asked.now) c.args.reply.now c.args.index c.place-at.result c.item_at-it.result = known (items c.args.asked.now) c.args.reply.now c.requires.t c.requires.asked_in_bounds c.args.index _ _ below c.place-at.ensures c.item_at-it.ensures in
-    let k = found in
+    let found : Known (items c.args.asked.now) c.args.reply.now c.args.index c.place-at.result c.item_at-it.result = known (items c.args.asked.now) c.args.reply.now c.requires.items_ruled c.requires.data_in_reply c.args.index _ _ below c.place-at.ensures c.item_at-it.ensures in
     let bytes = c.shared_slice_known-2-1.given in
-    record { it_value = (k.shapely, k.means); value_bound = rw c.value_at-value.ensures (value_fits c.args.reply.now (λ i. omega (arith, bytes i)) c.args.order c.item_at-it.result.words c.place-at.result) }
+    record { item_ruled = (found.shapely, found.means); value_fits = rw c.value_at-value.ensures (value_fits c.args.reply.now (λ i. omega (arith, bytes i)) c.args.order c.item_at-it.result.words c.place-at.result) }
 
 pub returns : goal.returns
 returns c =

@@ -14,18 +14,18 @@ unfolding words_of
 loop-i-init c = (omega arith, omega arith, refl)
 
 pub item_at-it-requires : goal.item_at-it-requires
-item_at-it-requires c = omega (arith, items_length c.args.asked.now, c.requires.index_in_bounds)
+item_at-it-requires c = omega (arith, items_length c.args.asked.now, c.requires.index_within)
 
 pub overflow_add-at : goal.overflow_add-at
 overflow_add-at c =
-    let narrow : Narrow c.item_at-it.result = rw c.item_at-it.ensures (narrow_at (items c.args.asked.now) c.requires.t c.loop-i.i (omega (arith, c.requires.index_in_bounds))) in
-    omega (arith, narrow.few, c.loop-i.invariant.1, items_length c.args.asked.now, c.requires.index_in_bounds)
+    let narrow : Narrow c.item_at-it.result = rw c.item_at-it.ensures (narrow_at (items c.args.asked.now) c.requires.items_shaped c.loop-i.i (omega (arith, c.requires.index_within))) in
+    omega (arith, narrow.few, c.loop-i.invariant.1, items_length c.args.asked.now, c.requires.index_within)
 
 pub loop-i-preserved : goal.loop-i-preserved
 loop-i-preserved c =
-    let narrow : Narrow c.item_at-it.result = rw c.item_at-it.ensures (narrow_at (items c.args.asked.now) c.requires.t c.loop-i.i (omega (arith, c.requires.index_in_bounds))) in
+    let narrow : Narrow c.item_at-it.result = rw c.item_at-it.ensures (narrow_at (items c.args.asked.now) c.requires.items_shaped c.loop-i.i (omega (arith, c.requires.index_within))) in
     let l = c.loop-i in
-    let on = words_upto (items c.args.asked.now) l.i (omega (arith, c.requires.index_in_bounds)) in
+    let on = words_upto (items c.args.asked.now) l.i (omega (arith, c.requires.index_within)) in
     (omega arith, omega (arith, narrow.few, l.invariant.1), rw (add-one l.i) (omega (arith, l.invariant.2, on, ap (λ (it : Item). it.words) c.item_at-it.ensures)))
 
 pub returns : goal.returns

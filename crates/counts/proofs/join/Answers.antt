@@ -15,6 +15,5 @@ returns-then-count-gt-TOP c = simp (sym c.within.ensures ∙ c.if-not-within.fal
 pub returns : goal.returns
 unfolding join_of
 returns c =
-    let e = c in
     rw (c.stepped.ensures, c.tenths.ensures)
-    (simp (sym e.within.ensures ∙ e.if-not-within.false, le-ltb top_count e.args.count.0 (omega arith)))
+    (simp (sym c.within.ensures ∙ c.if-not-within.false, le-ltb top_count c.args.count.0 (omega arith)))

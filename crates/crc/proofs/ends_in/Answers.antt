@@ -15,6 +15,4 @@ pub returns-then-n-lt2 : goal.returns-then-n-lt2
 returns-then-n-lt2 c = ends_in_none _ _ c.if-n-lt2.true
 
 pub returns : goal.returns
-returns c =
-    let h = c in
-    both _ _ h.low_byte-first.result h.high_byte-second.result h.if-n-lt2.false h.low_byte-first.ensures h.high_byte-second.ensures
+returns c = both _ _ c.low_byte-first.result c.high_byte-second.result c.if-n-lt2.false c.low_byte-first.ensures c.high_byte-second.ensures

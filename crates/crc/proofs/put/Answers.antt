@@ -30,6 +30,4 @@ bounds-buffer-n-2 c = simp length-set (omega arith)
 
 pub returns : goal.returns
 returns c =
-    let l = c in
-    let o = l in
-    room _ _ o.of-crc.result l.low_byte-first.result c.high_byte-second.result (omega arith) o.of-crc.ensures l.low_byte-first.ensures c.high_byte-second.ensures
+    room _ _ c.of-crc.result c.low_byte-first.result c.high_byte-second.result (omega arith) c.of-crc.ensures c.low_byte-first.ensures c.high_byte-second.ensures

@@ -4,6 +4,4 @@ use Rattle.directory.proofs.Flat.{item_of}
 use Rattle.directory.proofs.item_at.Goals as goal
 
 pub returns : goal.returns
-returns c =
-    let s = c in
-    sym (item_of s.args.table.now s.args.i (omega arith))
+returns c = sym (item_of c.args.table.now c.args.i (omega arith))

@@ -13,9 +13,7 @@ unfolding number
 loop-k-init c = (omega arith, omega arith, refl)
 
 pub overflow_cast-w : goal.overflow_cast-w
-overflow_cast-w c =
-    let s = c in
-    omega (arith, c.shared_slice_known-1.given (s.args.i + (c.loop-k.k - 1)))
+overflow_cast-w c = omega (arith, c.shared_slice_known-1.given (c.args.i + (c.loop-k.k - 1)))
 
 -- one byte more, from the place before
 module _ (k w : ℕ) (pos : 0 < k) (few : k ≤ 8) (fits : w < 2 ^ (8 * (8 - k))) where
@@ -38,17 +36,15 @@ module _ (k w : ℕ) (pos : 0 < k) (few : k ≤ 8) (fits : w < 2 ^ (8 * (8 - k))
 pub loop-k-preserved : goal.loop-k-preserved
 loop-k-preserved c =
     let l = c.loop-k in
-    let s = c in
-    let bs = s.args.bytes.now in
-    let j = s.args.i + (l.k - 1) in (
+    let bs = c.args.bytes.now in
+    let j = c.args.i + (l.k - 1) in (
       omega arith,
       more_fits l.k l.w (omega arith) l.invariant.0 l.invariant.1 (get_or bs j 0) (omega (arith, c.shared_slice_known-1.given j)),
-      more l.k l.w (omega arith) l.invariant.0 l.invariant.1 bs s.args.i s.requires l.invariant.2,
+      more l.k l.w (omega arith) l.invariant.0 l.invariant.1 bs c.args.i c.requires l.invariant.2,
     )
 
 pub returns : goal.returns
 returns c =
     let l = c.loop-k in
-    let s = c in
     let z : l.k ≡ 0 = omega arith in
-    l.invariant.2 ∙ ap (λ (k : ℕ). number (take (8 - k) (drop (s.args.i + k) s.args.bytes.now))) z ∙ rw add-zero refl
+    l.invariant.2 ∙ ap (λ (k : ℕ). number (take (8 - k) (drop (c.args.i + k) c.args.bytes.now))) z ∙ rw add-zero refl

@@ -5,7 +5,5 @@ use Rattle.lines.proofs.frame.Goals as goal
 
 pub returns-then-line_ok : goal.returns-then-line_ok
 returns-then-line_ok c =
-    let p = c in
-    let s = p in
-    let ok : line_ok s.args.line.now ≡ true = cc in
-    record { told = simp (ok, p.put_bytes.ensures.value); bytes = simp (ok, p.put_bytes.ensures.buffer_after) }
+    let ok : line_ok c.args.line.now ≡ true = cc in
+    record { told = simp (ok, c.put_bytes.ensures.value); bytes = simp (ok, c.put_bytes.ensures.buffer_after) }

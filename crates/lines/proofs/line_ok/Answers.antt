@@ -41,22 +41,14 @@ loop-i-init c = (omega arith, some c.args.line.now c.if-n-eq0.false)
 
 pub loop-i-preserved : goal.loop-i-preserved
 loop-i-preserved c =
-    let p = c in
-    let a = p in
-    (omega arith, sym (turn a.args.line.now a.loop-i.i (omega arith) p.pair_ok.result true p.pair_ok.ensures c.if-pair_ok-line.true) ∙ a.loop-i.invariant.1)
+    (omega arith, sym (turn c.args.line.now c.loop-i.i (omega arith) c.pair_ok.result true c.pair_ok.ensures c.if-pair_ok-line.true) ∙ c.loop-i.invariant.1)
 
 pub returns-else-pair_ok-line : goal.returns-else-pair_ok-line
 returns-else-pair_ok-line c =
-    let p = c in
-    let a = p in
-    sym (turn a.args.line.now a.loop-i.i (omega arith) p.pair_ok.result false p.pair_ok.ensures c.if-pair_ok-line.false) ∙ a.loop-i.invariant.1
+    sym (turn c.args.line.now c.loop-i.i (omega arith) c.pair_ok.result false c.pair_ok.ensures c.if-pair_ok-line.false) ∙ c.loop-i.invariant.1
 
 pub returns-then-n-i-ne2 : goal.returns-then-n-i-ne2
-returns-then-n-i-ne2 c =
-    let a = c in
-    sym (short (drop a.loop-i.i a.args.line.now) (simp length-drop (omega arith))) ∙ a.loop-i.invariant.1
+returns-then-n-i-ne2 c = sym (short (drop c.loop-i.i c.args.line.now) (simp length-drop (omega arith))) ∙ c.loop-i.invariant.1
 
 pub returns : goal.returns
-returns c =
-    let a = c in
-    c.pair_ok-2.ensures ∙ sym (last a.args.line.now a.loop-i.i (omega arith)) ∙ a.loop-i.invariant.1
+returns c = c.pair_ok-2.ensures ∙ sym (last c.args.line.now c.loop-i.i (omega arith)) ∙ c.loop-i.invariant.1

@@ -24,22 +24,16 @@ pub loop-i-init : goal.loop-i-init
 loop-i-init c = (omega arith, refl, c.requires, rw sub-zero)
 
 pub byte_of-requires : goal.byte_of-requires
-byte_of-requires c =
-    let a = c in
-    (turn_ok a.args.line.now a.loop-i.i (omega arith) a.loop-i.invariant.2).0
+byte_of-requires c = (turn_ok c.args.line.now c.loop-i.i (omega arith) c.loop-i.invariant.2).0
 
 pub loop-i-preserved : goal.loop-i-preserved
 loop-i-preserved c =
-    let a = c in
-    let s = a in
-    let line = s.args.line.now in
-    (omega arith, simp length-set a.loop-i.invariant.1, (turn_ok line a.loop-i.i (omega arith) a.loop-i.invariant.2).1, turn line a.loop-i.buffer a.loop-i.i (length s.args.buffer.now) c.byte_of.result (omega arith) (omega arith) c.byte_of.ensures ∙ a.loop-i.invariant.3)
+    let line = c.args.line.now in
+    (omega arith, simp length-set c.loop-i.invariant.1, (turn_ok line c.loop-i.i (omega arith) c.loop-i.invariant.2).1, turn line c.loop-i.buffer c.loop-i.i (length c.args.buffer.now) c.byte_of.result (omega arith) (omega arith) c.byte_of.ensures ∙ c.loop-i.invariant.3)
 
 pub shape_of-buffer : goal.shape_of-buffer
 shape_of-buffer c = c.loop-i.invariant.1
 
 pub returns : goal.returns
 returns c =
-    let a = c in
-    let s = a in
-    record { value = omega (arith, bytes_length s.args.line.now); buffer_after = sym (done s.args.line.now a.loop-i.buffer a.loop-i.i (length s.args.buffer.now) (omega arith)) ∙ a.loop-i.invariant.3 }
+    record { value = omega (arith, bytes_length c.args.line.now); buffer_after = sym (done c.args.line.now c.loop-i.buffer c.loop-i.i (length c.args.buffer.now) (omega arith)) ∙ c.loop-i.invariant.3 }

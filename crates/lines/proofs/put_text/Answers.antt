@@ -24,12 +24,7 @@ loop-i-init c = (omega arith, refl, refl)
 
 pub loop-i-preserved : goal.loop-i-preserved
 loop-i-preserved c =
-    let p = c in
-    let a = p in
-    (omega arith, simp length-set (omega arith), turn a.args.bytes.now a.loop-i.buffer p.put_digits.new.buffer a.loop-i.i (omega arith) p.put_digits.ensures ∙ a.loop-i.invariant.2)
+    (omega arith, simp length-set (omega arith), turn c.args.bytes.now c.loop-i.buffer c.put_digits.new.buffer c.loop-i.i (omega arith) c.put_digits.ensures ∙ c.loop-i.invariant.2)
 
 pub returns : goal.returns
-returns c =
-    let p = c in
-    let a = p in
-    p.put_digits-2.ensures ∙ sym (done a.args.bytes.now a.loop-i.buffer a.loop-i.i (omega arith)) ∙ a.loop-i.invariant.2
+returns c = c.put_digits-2.ensures ∙ sym (done c.args.bytes.now c.loop-i.buffer c.loop-i.i (omega arith)) ∙ c.loop-i.invariant.2

@@ -27,18 +27,12 @@ module _ (bytes buffer : List ℕ) where
       record { told = simp (t, text_length_lem); bytes = simp t }
 
 pub returns-then-n-eq0 : goal.returns-then-n-eq0
-returns-then-n-eq0 c =
-    let s = c in
-    empty s.args.bytes.now s.args.buffer.now c.if-n-eq0.true
+returns-then-n-eq0 c = empty c.args.bytes.now c.args.buffer.now c.if-n-eq0.true
 
 pub returns-then-buffer-n : goal.returns-then-buffer-n
-returns-then-buffer-n c =
-    let s = c in
-    no_room s.args.bytes.now s.args.buffer.now (omega arith)
+returns-then-buffer-n c = no_room c.args.bytes.now c.args.buffer.now (omega arith)
 
 pub returns : goal.returns
 returns c =
-    let p = c in
-    let s = p in
-    let r = room s.args.bytes.now s.args.buffer.now (omega arith) in
-    record { told = r.told; bytes = p.put_text.ensures ∙ r.bytes }
+    let r = room c.args.bytes.now c.args.buffer.now (omega arith) in
+    record { told = r.told; bytes = c.put_text.ensures ∙ r.bytes }

@@ -16,9 +16,7 @@ returns-then-words-reach c = let a = c.args in
     read_number (view_of a.table.now a.reach) a.frame.now (eq-eqb _ _ c.if-frame-ne-READ_LENGTH.false) (rw (← c.word_at-words.ensures) c.if-words-reach.true)
 
 pub run_in-requires : goal.run_in-requires
-run_in-requires c =
-    let s = c in
-    (s.requires.holds, passes_ruled (view_of s.args.table.now s.args.reach) s.requires.good)
+run_in-requires c = (c.requires.holds, passes_ruled (view_of c.args.table.now c.args.reach) c.requires.good)
 
 pub returns : goal.returns
 returns c = let a = c.args in

@@ -23,21 +23,16 @@ magnitude_most v h = by (leb 32768 v)
 
 pub returns-then-long : goal.returns-then-long
 returns-then-long c =
-    let l = c in
-    rw l.if-long.true
+    rw c.if-long.true
     (c.unless.ensures
-    ∙ ap (λ (s : Signed). cond (ltb 1000 s.magnitude) (Refused ValueImpossible) (Reading (Factor s))) l.signed_long-s.ensures)
+    ∙ ap (λ (s : Signed). cond (ltb 1000 s.magnitude) (Refused ValueImpossible) (Reading (Factor s))) c.signed_long-s.ensures)
 
 pub overflow_cast-value : goal.overflow_cast-value
 overflow_cast-value c = omega (arith, c.requires c.if-long.false)
 
 pub overflow_mul-tenfold : goal.overflow_mul-tenfold
 overflow_mul-tenfold c =
-    let w = c in
-    let s = w in
-    omega (arith, ap (λ (s : Signed). s.magnitude) w.signed_word-s.ensures, magnitude_most s.args.value (s.requires w.if-long.false))
+    omega (arith, ap (λ (c : Signed). c.magnitude) c.signed_word-s.ensures, magnitude_most c.args.value (c.requires c.if-long.false))
 
 pub returns : goal.returns
-returns c =
-    let w = c in
-    rw w.if-long.false (c.unless-2.ensures ∙ ap (read 100 10) w.signed_word-s.ensures)
+returns c = rw c.if-long.false (c.unless-2.ensures ∙ ap (read 100 10) c.signed_word-s.ensures)

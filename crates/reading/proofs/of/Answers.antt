@@ -51,28 +51,28 @@ overflow_mul-result c =
     record { fits = omega (arith, most) }
 
 pub factor-requires : goal.factor-requires
-factor-requires c = λ other. short c.args.t c.args.it c.args.value c.requires.it_value c.requires.value_bound ((shape c.args.it c.requires.it_value.0).short other).0
+factor-requires c = λ other. short c.args.t c.args.it c.args.value c.requires.item_ruled c.requires.value_fits ((shape c.args.it c.requires.item_ruled.0).short other).0
 
 pub overflow_cast-result-in-512 : goal.overflow_cast-result-in-512
-overflow_cast-result-in-512 c = omega (arith, word c.args.t c.args.it c.args.value c.requires.it_value c.requires.value_bound 8 c.in-512.is refl)
+overflow_cast-result-in-512 c = omega (arith, word c.args.t c.args.it c.args.value c.requires.item_ruled c.requires.value_fits 8 c.in-512.is refl)
 
 pub overflow_cast-value : goal.overflow_cast-value
-overflow_cast-value c = omega (arith, word c.args.t c.args.it c.args.value c.requires.it_value c.requires.value_bound 10 c.in-640.is refl)
+overflow_cast-value c = omega (arith, word c.args.t c.args.it c.args.value c.requires.item_ruled c.requires.value_fits 10 c.in-640.is refl)
 
 pub overflow_cast-value-in-704 : goal.overflow_cast-value-in-704
-overflow_cast-value-in-704 c = omega (arith, word c.args.t c.args.it c.args.value c.requires.it_value c.requires.value_bound 11 c.in-704.is refl)
+overflow_cast-value-in-704 c = omega (arith, word c.args.t c.args.it c.args.value c.requires.item_ruled c.requires.value_fits 11 c.in-704.is refl)
 
 pub overflow_cast-result-in-768 : goal.overflow_cast-result-in-768
-overflow_cast-result-in-768 c = omega (arith, word c.args.t c.args.it c.args.value c.requires.it_value c.requires.value_bound 12 c.in-768.is refl)
+overflow_cast-result-in-768 c = omega (arith, word c.args.t c.args.it c.args.value c.requires.item_ruled c.requires.value_fits 12 c.in-768.is refl)
 
 pub overflow_cast-value-in-832 : goal.overflow_cast-value-in-832
-overflow_cast-value-in-832 c = omega (arith, word c.args.t c.args.it c.args.value c.requires.it_value c.requires.value_bound 13 c.in-832.is refl)
+overflow_cast-value-in-832 c = omega (arith, word c.args.t c.args.it c.args.value c.requires.item_ruled c.requires.value_fits 13 c.in-832.is refl)
 
 pub overflow_cast-value-in-896 : goal.overflow_cast-value-in-896
-overflow_cast-value-in-896 c = omega (arith, word c.args.t c.args.it c.args.value c.requires.it_value c.requires.value_bound 14 c.in-896.is refl)
+overflow_cast-value-in-896 c = omega (arith, word c.args.t c.args.it c.args.value c.requires.item_ruled c.requires.value_fits 14 c.in-896.is refl)
 
 pub overflow_cast-value-in-960 : goal.overflow_cast-value-in-960
-overflow_cast-value-in-960 c = omega (arith, word c.args.t c.args.it c.args.value c.requires.it_value c.requires.value_bound 15 c.in-960.is refl)
+overflow_cast-value-in-960 c = omega (arith, word c.args.t c.args.it c.args.value c.requires.item_ruled c.requires.value_fits 15 c.in-960.is refl)
 
 -- the kinds before it are matched, so it is the last
 sixteen : (d : ℕ) → 1 ≤ d → d < 17 → (1 ≤ d → d < 16 → ⊥) → d ≡ 16
@@ -83,57 +83,57 @@ plain n least most none = omega (arith, sixteen (n / 64) least most (λ a b. non
 
 pub overflow_cast-result-in_default : goal.overflow_cast-result-in_default
 overflow_cast-result-in_default c =
-    let w = wide c.args.it c.requires.it_value.0 c.requires.it_value.1 in
+    let w = wide c.args.it c.requires.item_ruled.0 c.requires.item_ruled.1 in
     let last = plain c.args.it.quantity w.least w.most (λ i a b e. omega (arith, a, b, e)) in
-    omega (arith, word c.args.t c.args.it c.args.value c.requires.it_value c.requires.value_bound 16 last refl)
+    omega (arith, word c.args.t c.args.it c.args.value c.requires.item_ruled c.requires.value_fits 16 last refl)
 
 pub returns-in-64 : goal.returns-in-64
-returns-in-64 c = arm c.args.t c.args.it c.args.value c.requires.it_value c.requires.value_bound 1 c.is_b.ensures c.if-is_b-value.false c.in-64.is refl
+returns-in-64 c = arm c.args.t c.args.it c.args.value c.requires.item_ruled c.requires.value_fits 1 c.is_b.ensures c.if-is_b-value.false c.in-64.is refl
 
 pub returns-in-128 : goal.returns-in-128
-returns-in-128 c = arm c.args.t c.args.it c.args.value c.requires.it_value c.requires.value_bound 2 c.is_b.ensures c.if-is_b-value.false c.in-128.is refl
+returns-in-128 c = arm c.args.t c.args.it c.args.value c.requires.item_ruled c.requires.value_fits 2 c.is_b.ensures c.if-is_b-value.false c.in-128.is refl
 
 pub returns-in-192 : goal.returns-in-192
-returns-in-192 c = arm c.args.t c.args.it c.args.value c.requires.it_value c.requires.value_bound 3 c.is_b.ensures c.if-is_b-value.false c.in-192.is (ap (λ (u : ℕ). Reading (Power (c.args.value * u))) c.unit.ensures)
+returns-in-192 c = arm c.args.t c.args.it c.args.value c.requires.item_ruled c.requires.value_fits 3 c.is_b.ensures c.if-is_b-value.false c.in-192.is (ap (λ (u : ℕ). Reading (Power (c.args.value * u))) c.unit.ensures)
 
 pub returns-in-256 : goal.returns-in-256
-returns-in-256 c = arm c.args.t c.args.it c.args.value c.requires.it_value c.requires.value_bound 4 c.is_b.ensures c.if-is_b-value.false c.in-256.is (ap (λ (x : Signed). Reading (SignedPower x)) c.signed_long.ensures)
+returns-in-256 c = arm c.args.t c.args.it c.args.value c.requires.item_ruled c.requires.value_fits 4 c.is_b.ensures c.if-is_b-value.false c.in-256.is (ap (λ (x : Signed). Reading (SignedPower x)) c.signed_long.ensures)
 
 pub returns-in-320 : goal.returns-in-320
-returns-in-320 c = arm c.args.t c.args.it c.args.value c.requires.it_value c.requires.value_bound 5 c.is_b.ensures c.if-is_b-value.false c.in-320.is (c.unless.ensures ∙ ap (λ (x : Quantity). cond (ltb top_count c.args.value) (Refused ValueImpossible) (Reading x)) c.energy.ensures)
+returns-in-320 c = arm c.args.t c.args.it c.args.value c.requires.item_ruled c.requires.value_fits 5 c.is_b.ensures c.if-is_b-value.false c.in-320.is (c.unless.ensures ∙ ap (λ (x : Quantity). cond (ltb top_count c.args.value) (Refused ValueImpossible) (Reading x)) c.energy.ensures)
 
 pub returns-in-384 : goal.returns-in-384
-returns-in-384 c = arm c.args.t c.args.it c.args.value c.requires.it_value c.requires.value_bound 6 c.is_b.ensures c.if-is_b-value.false c.in-384.is c.unless-in-384.ensures
+returns-in-384 c = arm c.args.t c.args.it c.args.value c.requires.item_ruled c.requires.value_fits 6 c.is_b.ensures c.if-is_b-value.false c.in-384.is c.unless-in-384.ensures
 
 pub returns-in-448 : goal.returns-in-448
-returns-in-448 c = arm c.args.t c.args.it c.args.value c.requires.it_value c.requires.value_bound 7 c.is_b.ensures c.if-is_b-value.false c.in-448.is c.unless-in-448.ensures
+returns-in-448 c = arm c.args.t c.args.it c.args.value c.requires.item_ruled c.requires.value_fits 7 c.is_b.ensures c.if-is_b-value.false c.in-448.is c.unless-in-448.ensures
 
 pub returns-in-512 : goal.returns-in-512
-returns-in-512 c = arm c.args.t c.args.it c.args.value c.requires.it_value c.requires.value_bound 8 c.is_b.ensures c.if-is_b-value.false c.in-512.is refl
+returns-in-512 c = arm c.args.t c.args.it c.args.value c.requires.item_ruled c.requires.value_fits 8 c.is_b.ensures c.if-is_b-value.false c.in-512.is refl
 
 pub returns-in-576 : goal.returns-in-576
-returns-in-576 c = arm c.args.t c.args.it c.args.value c.requires.it_value c.requires.value_bound 9 c.is_b.ensures c.if-is_b-value.false c.in-576.is c.factor.ensures
+returns-in-576 c = arm c.args.t c.args.it c.args.value c.requires.item_ruled c.requires.value_fits 9 c.is_b.ensures c.if-is_b-value.false c.in-576.is c.factor.ensures
 
 pub returns-in-640 : goal.returns-in-640
-returns-in-640 c = arm c.args.t c.args.it c.args.value c.requires.it_value c.requires.value_bound 10 c.is_b.ensures c.if-is_b-value.false c.in-640.is c.unless-in-640.ensures
+returns-in-640 c = arm c.args.t c.args.it c.args.value c.requires.item_ruled c.requires.value_fits 10 c.is_b.ensures c.if-is_b-value.false c.in-640.is c.unless-in-640.ensures
 
 pub returns-in-704 : goal.returns-in-704
-returns-in-704 c = arm c.args.t c.args.it c.args.value c.requires.it_value c.requires.value_bound 11 c.is_b.ensures c.if-is_b-value.false c.in-704.is c.unless-in-704.ensures
+returns-in-704 c = arm c.args.t c.args.it c.args.value c.requires.item_ruled c.requires.value_fits 11 c.is_b.ensures c.if-is_b-value.false c.in-704.is c.unless-in-704.ensures
 
 pub returns-in-768 : goal.returns-in-768
-returns-in-768 c = arm c.args.t c.args.it c.args.value c.requires.it_value c.requires.value_bound 12 c.is_b.ensures c.if-is_b-value.false c.in-768.is refl
+returns-in-768 c = arm c.args.t c.args.it c.args.value c.requires.item_ruled c.requires.value_fits 12 c.is_b.ensures c.if-is_b-value.false c.in-768.is refl
 
 pub returns-in-832 : goal.returns-in-832
-returns-in-832 c = arm c.args.t c.args.it c.args.value c.requires.it_value c.requires.value_bound 13 c.is_b.ensures c.if-is_b-value.false c.in-832.is c.kta.ensures
+returns-in-832 c = arm c.args.t c.args.it c.args.value c.requires.item_ruled c.requires.value_fits 13 c.is_b.ensures c.if-is_b-value.false c.in-832.is c.kta.ensures
 
 pub returns-in-896 : goal.returns-in-896
-returns-in-896 c = arm c.args.t c.args.it c.args.value c.requires.it_value c.requires.value_bound 14 c.is_b.ensures c.if-is_b-value.false c.in-896.is c.ktv.ensures
+returns-in-896 c = arm c.args.t c.args.it c.args.value c.requires.item_ruled c.requires.value_fits 14 c.is_b.ensures c.if-is_b-value.false c.in-896.is c.ktv.ensures
 
 pub returns-in-960 : goal.returns-in-960
-returns-in-960 c = arm c.args.t c.args.it c.args.value c.requires.it_value c.requires.value_bound 15 c.is_b.ensures c.if-is_b-value.false c.in-960.is c.unless-in-960.ensures
+returns-in-960 c = arm c.args.t c.args.it c.args.value c.requires.item_ruled c.requires.value_fits 15 c.is_b.ensures c.if-is_b-value.false c.in-960.is c.unless-in-960.ensures
 
 pub returns-in_default : goal.returns-in_default
 returns-in_default c =
-    let w = wide c.args.it c.requires.it_value.0 c.requires.it_value.1 in
+    let w = wide c.args.it c.requires.item_ruled.0 c.requires.item_ruled.1 in
     let last = plain c.args.it.quantity w.least w.most (λ i a b e. omega (arith, a, b, e)) in
-    arm c.args.t c.args.it c.args.value c.requires.it_value c.requires.value_bound 16 c.is_b.ensures c.if-is_b-value.false last refl
+    arm c.args.t c.args.it c.args.value c.requires.item_ruled c.requires.value_fits 16 c.is_b.ensures c.if-is_b-value.false last refl

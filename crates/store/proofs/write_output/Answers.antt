@@ -26,15 +26,13 @@ returns-then-not-output_ok c =
     let number : word_number c.args.frame.now ≡ 24 = sym c.word_at.ensures ∙ c.if-word_at-ne-OUTPUT_WORDS.false in
     let stored : c.values.new.into ≡ write_values c.args.frame.now = let frame = c.args.frame.now in
     c.values.ensures ∙ ap (λ (k : ℕ). words_at k frame 7) (sym number) in
-    let n = number in
-    c.wrong-then-not-output_ok.ensures ∙ bad_24 c.args.m c.args.frame.now c.requires.0 c.requires.1 c.requires.2 n (sym (c.output_ok.ensures ∙ ap (group_ok 0x2200) stored) ∙ c.if-not-output_ok.true)
+    c.wrong-then-not-output_ok.ensures ∙ bad_24 c.args.m c.args.frame.now c.requires.0 c.requires.1 c.requires.2 number (sym (c.output_ok.ensures ∙ ap (group_ok 0x2200) stored) ∙ c.if-not-output_ok.true)
 
 pub returns : goal.returns
 returns c =
     let number : word_number c.args.frame.now ≡ 24 = sym c.word_at.ensures ∙ c.if-word_at-ne-OUTPUT_WORDS.false in
     let stored : c.values.new.into ≡ write_values c.args.frame.now = let frame = c.args.frame.now in
     c.values.ensures ∙ ap (λ (k : ℕ). words_at k frame 7) (sym number) in
-    let n = number in
     let next = c.with_output.ensures ∙ ap (λ (g : List ℕ). set_up_of c.args.m (with_output c.args.m.setup g)) stored in
     let good = sym (c.output_ok.ensures ∙ ap (group_ok 0x2200) stored) ∙ c.if-not-output_ok.false in
-    ap (λ (m : Meter). record { verdict = Good; meter = m }) next ∙ good_24 c.args.m c.args.frame.now c.requires.0 c.requires.1 c.requires.2 n good
+    ap (λ (m : Meter). record { verdict = Good; meter = m }) next ∙ good_24 c.args.m c.args.frame.now c.requires.0 c.requires.1 c.requires.2 number good

@@ -26,15 +26,13 @@ returns-then-not-standard_ok c =
     let number : word_number c.args.frame.now ≡ 16 = sym c.word_at.ensures ∙ c.if-word_at-ne-STANDARD_WORDS.false in
     let stored : c.values.new.into ≡ write_values c.args.frame.now = let frame = c.args.frame.now in
     c.values.ensures ∙ ap (λ (k : ℕ). words_at k frame 7) (sym number) in
-    let n = number in
-    c.wrong-then-not-standard_ok.ensures ∙ bad_16 c.args.m c.args.frame.now c.requires.0 c.requires.1 n (sym (c.standard_ok.ensures ∙ ap (group_ok 0x2000) stored) ∙ c.if-not-standard_ok.true)
+    c.wrong-then-not-standard_ok.ensures ∙ bad_16 c.args.m c.args.frame.now c.requires.0 c.requires.1 number (sym (c.standard_ok.ensures ∙ ap (group_ok 0x2000) stored) ∙ c.if-not-standard_ok.true)
 
 pub returns : goal.returns
 returns c =
     let number : word_number c.args.frame.now ≡ 16 = sym c.word_at.ensures ∙ c.if-word_at-ne-STANDARD_WORDS.false in
     let stored : c.values.new.into ≡ write_values c.args.frame.now = let frame = c.args.frame.now in
     c.values.ensures ∙ ap (λ (k : ℕ). words_at k frame 7) (sym number) in
-    let n = number in
     let next = c.with_standard.ensures ∙ ap (λ (g : List ℕ). set_up_of c.args.m (with_standard c.args.m.setup g)) stored in
     let good = sym (c.standard_ok.ensures ∙ ap (group_ok 0x2000) stored) ∙ c.if-not-standard_ok.false in
-    ap (λ (m : Meter). record { verdict = Good; meter = m }) next ∙ good_16 c.args.m c.args.frame.now c.requires.0 c.requires.1 n good
+    ap (λ (m : Meter). record { verdict = Good; meter = m }) next ∙ good_16 c.args.m c.args.frame.now c.requires.0 c.requires.1 number good

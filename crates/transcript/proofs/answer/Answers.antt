@@ -71,7 +71,7 @@ pub returns-in_default : goal.returns-in_default
 returns-in_default c =
     let unread : line_of c.args.line.now 257 ≡ Bad = sym c.frame.ensures.told ∙ c.in_default.is in
     let text = bad_text_lem c.args.meter c.args.line.now unread in
-    record { meter_value = (sym (bad_meter c.args.meter c.args.line.now unread), rw text c.put-end.ensures.value); text_after = rw text c.put-end.ensures.text_after }
+    record { meter_and_end = (sym (bad_meter c.args.meter c.args.line.now unread), rw text c.put-end.ensures.value); text_after = rw text c.put-end.ensures.text_after }
 
 pub slice_bounds-frame-end-2 : goal.slice_bounds-frame-end-2
 slice_bounds-frame-end-2 c =
@@ -90,8 +90,8 @@ tell-end-requires c =
     let held : line_of c.args.line.now 257 ≡ Frame c.in-Frame.n = sym c.frame.ensures.told ∙ c.in-Frame.is in
     let told_text = good_text c.args.meter c.args.line.now c.frame.new.buffer c.in-Frame.n held c.frame.ensures.bytes c.handle-handled.result c.handle-handled.new.buffer c.handle-handled.ensures in
     record {
-      by_index = λ n e. omega (arith, reply_long _ _ _ c.handle-handled.ensures.handled e);
-      reply_in_bounds = omega (arith, c.requires, ap length told_text);
+      reply_within = λ n e. omega (arith, reply_long _ _ _ c.handle-handled.ensures.handled e);
+      room = omega (arith, c.requires, ap length told_text);
     }
 
 pub returns : goal.returns
@@ -100,6 +100,6 @@ returns c =
     let told_text = good_text c.args.meter c.args.line.now c.frame.new.buffer c.in-Frame.n held c.frame.ensures.bytes c.handle-handled.result c.handle-handled.new.buffer c.handle-handled.ensures in
     let told_meter = good_meter c.args.meter c.args.line.now c.frame.new.buffer c.in-Frame.n held c.frame.ensures.bytes c.handle-handled.result c.handle-handled.new.buffer c.handle-handled.ensures in
     record {
-      meter_value = (told_meter, rw (← told_text) c.tell-end.ensures.value);
+      meter_and_end = (told_meter, rw (← told_text) c.tell-end.ensures.value);
       text_after = rw (← told_text) c.tell-end.ensures.text_after;
     }

@@ -72,13 +72,13 @@ pub bounds-text-end : goal.bounds-text-end
 bounds-text-end c =
     let t = c.answer-told.ensures in
     let fits = room c.args.input.now c.loop-at.text c.loop-at.meter c.loop-at.at c.loop-at.end c.line_end-stop.result c.loop-at-test.true c.line_end-stop.ensures (omega (arith, c.requires, c.loop-at.invariant.1)) c.loop-at.invariant.2 in
-    omega (arith, fits, t.meter_value.1, same_room c.args.input.now c.loop-at.text c.loop-at.meter c.loop-at.at c.loop-at.end c.line_end-stop.result c.loop-at-test.true c.line_end-stop.ensures c.answer-told.result.meter c.answer-told.result.end c.answer-told.new.text t.meter_value.0 t.meter_value.1 t.text_after)
+    omega (arith, fits, t.meter_and_end.1, same_room c.args.input.now c.loop-at.text c.loop-at.meter c.loop-at.at c.loop-at.end c.line_end-stop.result c.loop-at-test.true c.line_end-stop.ensures c.answer-told.result.meter c.answer-told.result.end c.answer-told.new.text t.meter_and_end.0 t.meter_and_end.1 t.text_after)
 
 pub overflow_add-end : goal.overflow_add-end
 overflow_add-end c =
     let t = c.answer-told.ensures in
     let fits = room c.args.input.now c.loop-at.text c.loop-at.meter c.loop-at.at c.loop-at.end c.line_end-stop.result c.loop-at-test.true c.line_end-stop.ensures (omega (arith, c.requires, c.loop-at.invariant.1)) c.loop-at.invariant.2 in
-    omega (arith, fits, t.meter_value.1, c.loop-at.invariant.1)
+    omega (arith, fits, t.meter_and_end.1, c.loop-at.invariant.1)
 
 pub overflow_add-at : goal.overflow_add-at
 overflow_add-at c = omega (arith, stops c.args.input.now c.loop-at.text c.loop-at.meter c.loop-at.at c.loop-at.end c.line_end-stop.result c.loop-at-test.true c.line_end-stop.ensures)
@@ -91,9 +91,9 @@ loop-at-preserved c =
     let inv = c.loop-at.invariant in
     let t = c.answer-told.ensures in (
       omega (arith, stops c.args.input.now c.loop-at.text c.loop-at.meter c.loop-at.at c.loop-at.end c.line_end-stop.result c.loop-at-test.true c.line_end-stop.ensures),
-      simp length-set (omega (arith, same_room c.args.input.now c.loop-at.text c.loop-at.meter c.loop-at.at c.loop-at.end c.line_end-stop.result c.loop-at-test.true c.line_end-stop.ensures c.answer-told.result.meter c.answer-told.result.end c.answer-told.new.text t.meter_value.0 t.meter_value.1 t.text_after, inv.1)),
-      omega (arith, t.meter_value.1, ap length (same_left c.args.input.now c.loop-at.text c.loop-at.meter c.loop-at.at c.loop-at.end c.line_end-stop.result c.loop-at-test.true c.line_end-stop.ensures c.answer-told.result.meter c.answer-told.result.end c.answer-told.new.text t.meter_value.0 t.meter_value.1 t.text_after), left_length c.args.input.now c.loop-at.text c.loop-at.meter c.loop-at.at c.loop-at.end c.line_end-stop.result c.loop-at-test.true c.line_end-stop.ensures, inv.2),
-      left_stored c.args.input.now c.loop-at.text c.loop-at.meter c.loop-at.at c.loop-at.end c.line_end-stop.result c.loop-at-test.true c.line_end-stop.ensures c.answer-told.result.meter c.answer-told.result.end c.answer-told.new.text t.meter_value.0 t.meter_value.1 t.text_after ∙ inv.3,
+      simp length-set (omega (arith, same_room c.args.input.now c.loop-at.text c.loop-at.meter c.loop-at.at c.loop-at.end c.line_end-stop.result c.loop-at-test.true c.line_end-stop.ensures c.answer-told.result.meter c.answer-told.result.end c.answer-told.new.text t.meter_and_end.0 t.meter_and_end.1 t.text_after, inv.1)),
+      omega (arith, t.meter_and_end.1, ap length (same_left c.args.input.now c.loop-at.text c.loop-at.meter c.loop-at.at c.loop-at.end c.line_end-stop.result c.loop-at-test.true c.line_end-stop.ensures c.answer-told.result.meter c.answer-told.result.end c.answer-told.new.text t.meter_and_end.0 t.meter_and_end.1 t.text_after), left_length c.args.input.now c.loop-at.text c.loop-at.meter c.loop-at.at c.loop-at.end c.line_end-stop.result c.loop-at-test.true c.line_end-stop.ensures, inv.2),
+      left_stored c.args.input.now c.loop-at.text c.loop-at.meter c.loop-at.at c.loop-at.end c.line_end-stop.result c.loop-at-test.true c.line_end-stop.ensures c.answer-told.result.meter c.answer-told.result.end c.answer-told.new.text t.meter_and_end.0 t.meter_and_end.1 t.text_after ∙ inv.3,
     )
 
 pub shape_of-text : goal.shape_of-text

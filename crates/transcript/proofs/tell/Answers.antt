@@ -49,7 +49,7 @@ module _ (did : Reply) (reply text : List ℕ) (at : ℕ) (room : at + length (r
 pub put-requires : goal.put-requires
 put-requires c =
     let quiet : reply_text c.args.did c.args.reply.now ≡ silent_text = unsent c.args.did c.args.reply.now c.in_default.not-Sent in
-    put_fits c.args.did c.args.reply.now c.args.text.now c.args.at c.requires.reply_in_bounds quiet
+    put_fits c.args.did c.args.reply.now c.args.text.now c.args.at c.requires.room quiet
 
 pub returns-in_default : goal.returns-in_default
 returns-in_default c =
@@ -57,14 +57,14 @@ returns-in_default c =
     rw quiet (record { value = c.put.ensures.value; text_after = c.put.ensures.text_after })
 
 pub slice_bounds-text-end : goal.slice_bounds-text-end
-slice_bounds-text-end c = sym (length-take-le _ _ (c.requires.by_index _ c.in-Sent.is))
+slice_bounds-text-end c = sym (length-take-le _ _ (c.requires.reply_within _ c.in-Sent.is))
 
 pub overflow_add-result : goal.overflow_add-result
 overflow_add-result c =
-    let wrote : c.text.result ≡ length (reply_text c.args.did c.args.reply.now) = long c.args.did c.args.reply.now c.args.text.now c.args.at c.requires.reply_in_bounds _ _ _ c.in-Sent.is c.text.ensures in
-    omega (arith, wrote, c.requires.reply_in_bounds)
+    let wrote : c.text.result ≡ length (reply_text c.args.did c.args.reply.now) = long c.args.did c.args.reply.now c.args.text.now c.args.at c.requires.room _ _ _ c.in-Sent.is c.text.ensures in
+    omega (arith, wrote, c.requires.room)
 
 pub returns : goal.returns
 returns c =
-    let wrote : c.text.result ≡ length (reply_text c.args.did c.args.reply.now) = long c.args.did c.args.reply.now c.args.text.now c.args.at c.requires.reply_in_bounds _ _ _ c.in-Sent.is c.text.ensures in
-    record { value = ap (λ (k : ℕ). c.args.at + k) wrote; text_after = stands c.args.did c.args.reply.now c.args.text.now c.args.at c.requires.reply_in_bounds _ _ _ c.in-Sent.is c.text.ensures }
+    let wrote : c.text.result ≡ length (reply_text c.args.did c.args.reply.now) = long c.args.did c.args.reply.now c.args.text.now c.args.at c.requires.room _ _ _ c.in-Sent.is c.text.ensures in
+    record { value = ap (λ (k : ℕ). c.args.at + k) wrote; text_after = stands c.args.did c.args.reply.now c.args.text.now c.args.at c.requires.room _ _ _ c.in-Sent.is c.text.ensures }

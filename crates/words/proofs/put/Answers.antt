@@ -12,14 +12,12 @@ returns-then-words-eq1 c =
 
 pub returns-in-UpperFirst : goal.returns-in-UpperFirst
 returns-in-UpperFirst c =
-    let s = c in
-    let two : s.args.words ≡ 2 = omega arith in
-    let upper : s.args.order ≡ UpperFirst = c.in-UpperFirst.is in
-    rw (two, upper, sent_upper s.args.v (search rules)) c.put_two.ensures
+    let two : c.args.words ≡ 2 = omega arith in
+    let upper : c.args.order ≡ UpperFirst = c.in-UpperFirst.is in
+    rw (two, upper, sent_upper c.args.v (search rules)) c.put_two.ensures
 
 pub returns-in-LowerFirst : goal.returns-in-LowerFirst
 returns-in-LowerFirst c =
-    let s = c in
-    let two : s.args.words ≡ 2 = omega arith in
-    let lower : s.args.order ≡ LowerFirst = c.in-LowerFirst.is in
-    rw (two, lower, sent_lower s.args.v (search rules)) c.put_two-in-LowerFirst.ensures
+    let two : c.args.words ≡ 2 = omega arith in
+    let lower : c.args.order ≡ LowerFirst = c.in-LowerFirst.is in
+    rw (two, lower, sent_lower c.args.v (search rules)) c.put_two-in-LowerFirst.ensures

@@ -7,8 +7,6 @@ use Rattle.words.proofs.put_two.Goals as goal
 
 pub returns : goal.returns
 returns c =
-    let second = c in
-    let first = second in
-    let a = first.args in
+    let a = c.args in
     rw sets_append
-    (second.put_word-2.ensures ∙ ap (λ (l : List ℕ). sets l (a.at + 2) (word a.second)) first.put_word.ensures)
+    (c.put_word-2.ensures ∙ ap (λ (l : List ℕ). sets l (a.at + 2) (word a.second)) c.put_word.ensures)

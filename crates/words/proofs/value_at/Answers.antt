@@ -11,14 +11,12 @@ returns-then-words-eq1 c =
 
 pub returns-in-UpperFirst : goal.returns-in-UpperFirst
 returns-in-UpperFirst c =
-    let s = c in
-    let two : s.args.words ≡ 2 = omega arith in
-    let upper : s.args.order ≡ UpperFirst = c.in-UpperFirst.is in
+    let two : c.args.words ≡ 2 = omega arith in
+    let upper : c.args.order ≡ UpperFirst = c.in-UpperFirst.is in
     rw (two, upper, value_upper, c.word_at-first.ensures, c.word_at-second.ensures) refl
 
 pub returns-in-LowerFirst : goal.returns-in-LowerFirst
 returns-in-LowerFirst c =
-    let s = c in
-    let two : s.args.words ≡ 2 = omega arith in
-    let lower : s.args.order ≡ LowerFirst = c.in-LowerFirst.is in
+    let two : c.args.words ≡ 2 = omega arith in
+    let lower : c.args.order ≡ LowerFirst = c.in-LowerFirst.is in
     rw (two, lower, value_lower, c.word_at-first.ensures, c.word_at-second.ensures) refl

@@ -9,9 +9,8 @@ use Rattle.average.proofs.Average.within.Goals as goal
 
 pub overflow_mul-result : goal.overflow_mul-result
 overflow_mul-result c =
-    let s = c in
-    let most : c.power_limit-limit.result ≤ top_power = rw c.power_limit-limit.ensures (power_laws.limit s.args.t) in
-    record { fits = omega (arith, mul-le-mul {n₁ = s.args.self.window.seconds} {m₁ = c.power_limit-limit.result} {n₂ = 65535} {m₂ = top_power} (search rules) most) }
+    let most : c.power_limit-limit.result ≤ top_power = rw c.power_limit-limit.ensures (power_laws.limit c.args.t) in
+    record { fits = omega (arith, mul-le-mul {n₁ = c.args.self.window.seconds} {m₁ = c.power_limit-limit.result} {n₂ = 65535} {m₂ = top_power} (search rules) most) }
 
 pub returns : goal.returns
 unfolding average_ok

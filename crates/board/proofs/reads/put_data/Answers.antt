@@ -12,32 +12,32 @@ use Rattle.board.proofs.Sent.{length_items}
 use Rattle.board.proofs.reads.put_data.Goals as goal
 
 pub bounds-frame-0 : goal.bounds-frame-0
-bounds-frame-0 c = omega (arith, c.requires.frame_len.0)
+bounds-frame-0 c = omega (arith, c.requires.words_as_asked.0)
 
 pub bounds-frame-1 : goal.bounds-frame-1
-bounds-frame-1 c = omega (arith, c.requires.frame_len.0)
+bounds-frame-1 c = omega (arith, c.requires.words_as_asked.0)
 
 pub bounds-buffer-1 : goal.bounds-buffer-1
 bounds-buffer-1 c = simp length-set (omega arith)
 
 pub word_at-requires : goal.word_at-requires
-word_at-requires c = omega (arith, c.requires.frame_len.0)
+word_at-requires c = omega (arith, c.requires.words_as_asked.0)
 
 pub overflow_mul-buffer : goal.overflow_mul-buffer
-overflow_mul-buffer c = omega (arith, c.requires.frame_bound.0, c.word_at.ensures)
+overflow_mul-buffer c = omega (arith, c.requires.room.0, c.word_at.ensures)
 
 pub overflow_cast-buffer : goal.overflow_cast-buffer
-overflow_cast-buffer c = omega (arith, c.requires.frame_bound.0, c.word_at.ensures)
+overflow_cast-buffer c = omega (arith, c.requires.room.0, c.word_at.ensures)
 
 pub bounds-buffer-2 : goal.bounds-buffer-2
 bounds-buffer-2 c = simp length-set (omega arith)
 
 pub put_items-end-requires : goal.put_items-end-requires
-put_items-end-requires c = record { t = c.requires.t; m_value = c.requires.m_value; asked_in_bounds = simp length-set (omega (arith, c.requires.frame_len.1, c.requires.frame_bound.0, c.requires.frame_bound.1)) }
+put_items-end-requires c = record { items_narrow = c.requires.items_narrow; within_limits = c.requires.within_limits; room = simp length-set (omega (arith, c.requires.words_as_asked.1, c.requires.room.0, c.requires.room.1)) }
 
 pub overflow_add-result : goal.overflow_add-result
 overflow_add-result c =
-    let room : c.put_items-end.result + 2 ≤ length c.args.buffer.now = omega (arith, c.put_items-end.ensures.value, c.requires.frame_len.1, c.requires.frame_bound.0, c.requires.frame_bound.1) in
+    let room : c.put_items-end.result + 2 ≤ length c.args.buffer.now = omega (arith, c.put_items-end.ensures.value, c.requires.words_as_asked.1, c.requires.room.0, c.requires.room.1) in
     omega (arith, room)
 
 pub returns : goal.returns
@@ -46,7 +46,7 @@ returns c =
     function_of c.args.frame.now ∷
     2 * n ∷
     items_sent c.args.m.given.order (shown_of c.args.m) (items c.args.asked.now)) (word_number c.args.frame.now)) ≡ c.put_items-end.result = omega (arith, length_items c.args.m.given.order (shown_of c.args.m) (items c.args.asked.now), c.put_items-end.ensures.value) in
-    let room : c.put_items-end.result + 2 ≤ length c.args.buffer.now = omega (arith, c.put_items-end.ensures.value, c.requires.frame_len.1, c.requires.frame_bound.0, c.requires.frame_bound.1) in
+    let room : c.put_items-end.result + 2 ≤ length c.args.buffer.now = omega (arith, c.put_items-end.ensures.value, c.requires.words_as_asked.1, c.requires.room.0, c.requires.room.1) in
     let stored : c.put_items-end.new.buffer ≡ sets c.args.buffer.now 0 ((λ (n : ℕ). address_of c.args.frame.now ∷
     function_of c.args.frame.now ∷
     2 * n ∷

@@ -22,23 +22,23 @@ item_at-it-requires c =
     omega (arith, below, items_length c.args.asked.now)
 
 pub shown-requires : goal.shown-requires
-shown-requires c = c.requires.m_value
+shown-requires c = c.requires.within_limits
 
 pub put-requires : goal.put-requires
 put-requires c =
     let below : c.loop-i.i < length (items c.args.asked.now) = omega (arith, items_length c.args.asked.now) in
-    let narrow : Narrow c.item_at-it.result = rw c.item_at-it.ensures (every_narrow (items c.args.asked.now) c.requires.t c.loop-i.i below) in
+    let narrow : Narrow c.item_at-it.result = rw c.item_at-it.ensures (every_narrow (items c.args.asked.now) c.requires.items_narrow c.loop-i.i below) in
     let passed : words_of (drop c.loop-i.i (items c.args.asked.now)) ≡ c.item_at-it.result.words + words_of (drop (c.loop-i.i + 1) (items c.args.asked.now)) = words_on (items c.args.asked.now) c.loop-i.i below
     ∙ ap (λ (it : Item). it.words + words_of (drop (c.loop-i.i + 1) (items c.args.asked.now))) (sym c.item_at-it.ensures) in
     let l = c.loop-i in
-    (omega (arith, passed, l.invariant.1, l.invariant.2, c.requires.asked_in_bounds), (narrow.some, narrow.few))
+    (omega (arith, passed, l.invariant.1, l.invariant.2, c.requires.room), (narrow.some, narrow.few))
 
 pub overflow_add-at : goal.overflow_add-at
 overflow_add-at c =
     let below : c.loop-i.i < length (items c.args.asked.now) = omega (arith, items_length c.args.asked.now) in
     let passed : words_of (drop c.loop-i.i (items c.args.asked.now)) ≡ c.item_at-it.result.words + words_of (drop (c.loop-i.i + 1) (items c.args.asked.now)) = words_on (items c.args.asked.now) c.loop-i.i below
     ∙ ap (λ (it : Item). it.words + words_of (drop (c.loop-i.i + 1) (items c.args.asked.now))) (sym c.item_at-it.ensures) in
-    omega (arith, passed, c.loop-i.invariant.2, c.requires.asked_in_bounds)
+    omega (arith, passed, c.loop-i.invariant.2, c.requires.room)
 
 pub loop-i-preserved : goal.loop-i-preserved
 loop-i-preserved c =

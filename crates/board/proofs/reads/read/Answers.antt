@@ -26,7 +26,7 @@ pub with_table-requires : goal.with_table-requires
 unfolding directory flat
 with_table-requires c =
     let r = c.requires in
-    record { lent = part_lent c.args.tenant _ c.reach_for.ensures; m_value = r.m_value; in_bounds = r.in_bounds; in_bounds_2 = r.in_bounds_2 }
+    record { lent = part_lent c.args.tenant _ c.reach_for.ensures; within_limits = r.within_limits; function_below_0x80 = r.function_below_0x80; room = r.room }
 
 pub returns : goal.returns
 unfolding directory flat

@@ -34,16 +34,15 @@ item_at-it-requires c = omega (arith, items_length c.args.asked.now, c.loop-i.in
 pub value_at-value-requires : goal.value_at-value-requires
 value_at-value-requires c =
     let below : c.loop-i.i < length (items c.args.asked.now) = omega (arith, c.loop-i.invariant.0) in
-    let found : Known (items c.args.asked.now) c.args.reply.now c.loop-i.i c.loop-i.at c.item_at-it.result = known (items c.args.asked.now) c.args.reply.now c.requires.t c.requires.asked_in_bounds c.loop-i.i _ _ below c.loop-i.invariant.2 c.item_at-it.ensures in
+    let found : Known (items c.args.asked.now) c.args.reply.now c.loop-i.i c.loop-i.at c.item_at-it.result = known (items c.args.asked.now) c.args.reply.now c.requires.items_ruled c.requires.data_in_reply c.loop-i.i _ _ below c.loop-i.invariant.2 c.item_at-it.ensures in
     let k = found in (k.room, (k.narrow.some, k.narrow.few))
 
 pub of-answer-requires : goal.of-answer-requires
 of-answer-requires c =
     let below : c.loop-i.i < length (items c.args.asked.now) = omega (arith, c.loop-i.invariant.0) in
-    let found : Known (items c.args.asked.now) c.args.reply.now c.loop-i.i c.loop-i.at c.item_at-it.result = known (items c.args.asked.now) c.args.reply.now c.requires.t c.requires.asked_in_bounds c.loop-i.i _ _ below c.loop-i.invariant.2 c.item_at-it.ensures in
-    let k = found in
+    let found : Known (items c.args.asked.now) c.args.reply.now c.loop-i.i c.loop-i.at c.item_at-it.result = known (items c.args.asked.now) c.args.reply.now c.requires.items_ruled c.requires.data_in_reply c.loop-i.i _ _ below c.loop-i.invariant.2 c.item_at-it.ensures in
     let bytes = c.shared_slice_known-2-1.given in
-    record { it_value = (k.shapely, k.means); value_bound = rw c.value_at-value.ensures (value_fits c.args.reply.now (λ i. omega (arith, bytes i)) c.args.order c.item_at-it.result.words c.loop-i.at) }
+    record { item_ruled = (found.shapely, found.means); value_fits = rw c.value_at-value.ensures (value_fits c.args.reply.now (λ i. omega (arith, bytes i)) c.args.order c.item_at-it.result.words c.loop-i.at) }
 
 pub shape_of-cells-in_default : goal.shape_of-cells-in_default
 shape_of-cells-in_default c =
@@ -80,17 +79,17 @@ returns-in_default c =
 pub bounds-cells-i : goal.bounds-cells-i
 bounds-cells-i c =
     let l = c.loop-i in
-    omega (arith, laid_length c.args.cells.now l.cells (map cell_of l.invariant.3.qs) l.invariant.3.values, l.invariant.0, c.requires.asked_in_bounds_2.0)
+    omega (arith, laid_length c.args.cells.now l.cells (map cell_of l.invariant.3.qs) l.invariant.3.values, l.invariant.0, c.requires.rows_have_room.0)
 
 pub bounds-numbers-i : goal.bounds-numbers-i
 bounds-numbers-i c =
     let l = c.loop-i in
-    omega (arith, laid_length c.args.numbers.now l.numbers (map kind_of l.invariant.3.qs) l.invariant.3.kinds, l.invariant.0, c.requires.asked_in_bounds_2.1)
+    omega (arith, laid_length c.args.numbers.now l.numbers (map kind_of l.invariant.3.qs) l.invariant.3.kinds, l.invariant.0, c.requires.rows_have_room.1)
 
 pub overflow_add-at : goal.overflow_add-at
 overflow_add-at c =
     let below : c.loop-i.i < length (items c.args.asked.now) = omega (arith, c.loop-i.invariant.0) in
-    let found : Known (items c.args.asked.now) c.args.reply.now c.loop-i.i c.loop-i.at c.item_at-it.result = known (items c.args.asked.now) c.args.reply.now c.requires.t c.requires.asked_in_bounds c.loop-i.i _ _ below c.loop-i.invariant.2 c.item_at-it.ensures in
+    let found : Known (items c.args.asked.now) c.args.reply.now c.loop-i.i c.loop-i.at c.item_at-it.result = known (items c.args.asked.now) c.args.reply.now c.requires.items_ruled c.requires.data_in_reply c.loop-i.i _ _ below c.loop-i.invariant.2 c.item_at-it.ensures in
     omega (arith, found.room, c.ranges)
 
 pub loop-i-preserved : goal.loop-i-preserved

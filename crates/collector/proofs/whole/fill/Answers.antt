@@ -26,9 +26,9 @@ returns-then-values-n c =
 
 pub all_read-requires : goal.all_read-requires
 all_read-requires c =
-    let few : length c.args.asked.now / 4 ≤ 125 = omega (arith, few_items (items c.args.asked.now) c.requires.t.0, c.requires.asked_in_bounds.1, items_length c.args.asked.now) in
-    let few : length (items c.args.asked.now) ≤ 125 = omega (arith, few_items (items c.args.asked.now) c.requires.t.0, c.requires.asked_in_bounds.1) in
-    record { t = c.requires.t; asked_in_bounds = c.requires.asked_in_bounds.0; asked_in_bounds_2 = (few, few) }
+    let few : length c.args.asked.now / 4 ≤ 125 = omega (arith, few_items (items c.args.asked.now) c.requires.items_ruled.0, c.requires.data_in_reply.1, items_length c.args.asked.now) in
+    let few : length (items c.args.asked.now) ≤ 125 = omega (arith, few_items (items c.args.asked.now) c.requires.items_ruled.0, c.requires.data_in_reply.1) in
+    record { items_ruled = c.requires.items_ruled; data_in_reply = c.requires.data_in_reply.0; rows_have_room = (few, few) }
 
 pub returns-then-not-all_read : goal.returns-then-not-all_read
 returns-then-not-all_read c =
@@ -46,13 +46,13 @@ lay-requires c =
     let count : length c.args.asked.now / 4 ≡ length (in_turn (length (items c.args.asked.now)) (item_of c.args.order c.args.tenths (items c.args.asked.now) c.args.reply.now)) = sym (items_length c.args.asked.now) ∙ sym (turns_length (length (items c.args.asked.now)) (item_of c.args.order c.args.tenths (items c.args.asked.now) c.args.reply.now)) in
     let roomy : short (in_turn (length (items c.args.asked.now)) (item_of c.args.order c.args.tenths (items c.args.asked.now) c.args.reply.now)) c.args.values.now c.args.kinds.now ≡ false = subst (λ (n : ℕ). (ltb (length c.args.values.now) n || ltb (length c.args.kinds.now) n) ≡ false) count c.if-values-n.false in
     let all : c.all_read.result ≡ true = c.if-not-all_read.false in
-    let few : length c.args.asked.now / 4 ≤ 125 = omega (arith, few_items (items c.args.asked.now) c.requires.t.0, c.requires.asked_in_bounds.1, items_length c.args.asked.now) in
+    let few : length c.args.asked.now / 4 ≤ 125 = omega (arith, few_items (items c.args.asked.now) c.requires.items_ruled.0, c.requires.data_in_reply.1, items_length c.args.asked.now) in
     let n = neither (ltb (length c.args.values.now) (length (in_turn (length (items c.args.asked.now)) (item_of c.args.order c.args.tenths (items c.args.asked.now) c.args.reply.now)))) (ltb (length c.args.kinds.now) (length (in_turn (length (items c.args.asked.now)) (item_of c.args.order c.args.tenths (items c.args.asked.now) c.args.reply.now)))) roomy in
     let values = ltb-false (length c.args.values.now) (length (in_turn (length (items c.args.asked.now)) (item_of c.args.order c.args.tenths (items c.args.asked.now) c.args.reply.now))) n.0 in
     let kinds = ltb-false (length c.args.kinds.now) (length (in_turn (length (items c.args.asked.now)) (item_of c.args.order c.args.tenths (items c.args.asked.now) c.args.reply.now))) n.1 in
     let cells = laid_length (replicate 125 0) _ (map cell_of (readings_in (in_turn (length (items c.args.asked.now)) (item_of c.args.order c.args.tenths (items c.args.asked.now) c.args.reply.now)))) (c.all_read.ensures.cells_after all) in
     let numbers = laid_length (replicate 125 0) _ (map kind_of (readings_in (in_turn (length (items c.args.asked.now)) (item_of c.args.order c.args.tenths (items c.args.asked.now) c.args.reply.now)))) (c.all_read.ensures.numbers_after all) in
-    record { n_in_bounds = (omega (arith, few, cells), omega (arith, few, numbers)); n_in_bounds_2 = (omega (arith, values, count), omega (arith, kinds, count)) }
+    record { as_many_laid_out = (omega (arith, few, cells), omega (arith, few, numbers)); rows_have_room = (omega (arith, values, count), omega (arith, kinds, count)) }
 
 pub returns : goal.returns
 returns c =
@@ -63,7 +63,7 @@ returns c =
     let readings : length (readings_in (in_turn (length (items c.args.asked.now)) (item_of c.args.order c.args.tenths (items c.args.asked.now) c.args.reply.now))) ≡ length c.args.asked.now / 4 = let ask = item_of c.args.order c.args.tenths (items c.args.asked.now) c.args.reply.now in
     let r = turns_read (length (items c.args.asked.now)) ask (λ i b. item_possible c.args.order c.args.tenths (items c.args.asked.now) c.args.reply.now i b) none in
     ap length (read_all (length (items c.args.asked.now)) ask r.0 r.1) ∙ read_length (length (items c.args.asked.now)) ask r.0 r.1 ∙ items_length c.args.asked.now in
-    let few : length c.args.asked.now / 4 ≤ 125 = omega (arith, few_items (items c.args.asked.now) c.requires.t.0, c.requires.asked_in_bounds.1, items_length c.args.asked.now) in
+    let few : length c.args.asked.now / 4 ≤ 125 = omega (arith, few_items (items c.args.asked.now) c.requires.items_ruled.0, c.requires.data_in_reply.1, items_length c.args.asked.now) in
     let r = c.all_read.ensures in
     let filled = sym (all_filled (in_turn (length (items c.args.asked.now)) (item_of c.args.order c.args.tenths (items c.args.asked.now) c.args.reply.now)) c.args.values.now c.args.kinds.now roomy none) in
     record {

@@ -25,8 +25,7 @@ pub fill-requires : goal.fill-requires
 fill-requires c =
     let found : (judged_in (view_of c.args.table.now c.args.reach) c.args.request.now c.args.reply.now c.args.plate.ratios) ≡ Items c.in-Items.first c.in-Items.count = sym c.judge-judged.ensures ∙ c.in-Items.is in
     let part : DataPart c.args.table.now c.args.reach c.args.reply.now c.in-Items.first c.in-Items.count = data_part c.args.table.now c.args.reach c.requires c.args.request.now c.args.reply.now c.args.plate.ratios _ _ found in
-    let p = part in
-    rw c.part-asked.ensures (record { t = (p.shapely, p.means); asked_in_bounds = (p.words, p.few) })
+    rw c.part-asked.ensures (record { items_ruled = (part.shapely, part.means); data_in_reply = (part.words, part.few) })
 
 pub returns-in-Items : goal.returns-in-Items
 returns-in-Items c =

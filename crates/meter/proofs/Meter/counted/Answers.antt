@@ -13,28 +13,22 @@ pub in_force-p-requires : goal.in_force-p-requires
 in_force-p-requires c = held_p c.args.self c.args.sample c.requires.0 c.requires.1
 
 pub in_force-requires : goal.in_force-requires
-in_force-requires c =
-    let s = c in
-    held_q s.args.self s.args.sample s.requires.0 s.requires.1
+in_force-requires c = held_q c.args.self c.args.sample c.requires.0 c.requires.1
 
 pub plus-next-requires : goal.plus-next-requires
 plus-next-requires c =
-    let s = c in
     rw (c.in_force-p.ensures, c.in_force.ensures)
-    (room s.args.self s.args.sample s.requires.0 s.requires.1)
+    (room c.args.self c.args.sample c.requires.0 c.requires.1)
 
 pub after-next-requires : goal.after-next-requires
 after-next-requires c =
-    let s = c in
-    let m = s.args.self in
+    let m = c.args.self in
     rw c.in_force-p.ensures
-    (joins (meter_t m) (code_of m.setup) m.average (in_force s.args.sample.p) (meter_parts m s.requires.0).average (p_most m s.args.sample s.requires.0 s.requires.1))
+    (joins (meter_t m) (code_of m.setup) m.average (in_force c.args.sample.p) (meter_parts m c.requires.0).average (p_most m c.args.sample c.requires.0 c.requires.1))
 
 pub returns : goal.returns
 returns c =
-    let p = c in
-    let s = p in
-    let m = s.args.self in
-    let counters = c.plus-next.ensures ∙ (λ i. with_powers m.counters (p.in_force-p.ensures i) (c.in_force.ensures i)) in
-    let average = c.after-next.ensures ∙ (λ i. after_second (c.code.ensures i) m.average (p.in_force-p.ensures i)) in
-    λ i. with_average (with_latest (with_counters m (counters i)) s.args.sample) (average i)
+    let m = c.args.self in
+    let counters = c.plus-next.ensures ∙ (λ i. with_powers m.counters (c.in_force-p.ensures i) (c.in_force.ensures i)) in
+    let average = c.after-next.ensures ∙ (λ i. after_second (c.code.ensures i) m.average (c.in_force-p.ensures i)) in
+    λ i. with_average (with_latest (with_counters m (counters i)) c.args.sample) (average i)

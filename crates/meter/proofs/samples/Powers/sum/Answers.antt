@@ -31,18 +31,15 @@ read_three p held h k l =
 pub overflow_add-self : goal.overflow_add-self
 overflow_add-self c =
     let g = c.struct_told-1.given in
-    let s = c in
-    rw (read_two s.args.self g.0.1 g.1.0.1) (two_fit s.args.self s.requires)
+    rw (read_two c.args.self g.0.1 g.1.0.1) (two_fit c.args.self c.requires)
 
 pub overflow_add-self-2 : goal.overflow_add-self-2
 overflow_add-self-2 c =
     let g = c.struct_told-2-1.given in
-    let s = c in
-    rw (read_three s.args.self s.requires g.0.1 g.1.0.1 g.1.1.0.1) (three_fit s.args.self s.requires)
+    rw (read_three c.args.self c.requires g.0.1 g.1.0.1 g.1.1.0.1) (three_fit c.args.self c.requires)
 
 pub returns : goal.returns
 returns c =
     let g = c.struct_told-2-1.given in
-    let s = c in
-    let read = read_three s.args.self s.requires g.0.1 g.1.0.1 g.1.1.0.1 in
-    c.of.ensures ∙ ap signed_of (ap (λ (z : ℤ). to_z w64 (of_z w64 z)) read ∙ to_z-of_z (three_fit s.args.self s.requires))
+    let read = read_three c.args.self c.requires g.0.1 g.1.0.1 g.1.1.0.1 in
+    c.of.ensures ∙ ap signed_of (ap (λ (z : ℤ). to_z w64 (of_z w64 z)) read ∙ to_z-of_z (three_fit c.args.self c.requires))
