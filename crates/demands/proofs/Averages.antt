@@ -1,5 +1,6 @@
 -- The figures that a record keeps are those of the layout: a second joins both, a full window closes in both, and a frame that changes the code
 -- opens a new window in both. What is read shows these figures.
+use Rattle.std.specs.Prelude.{Ok}
 use mathlib.Core.Path.{◌≡◌, refl, sym, ap, subst, ◌∙◌}
 use mathlib.Core.Logic.{inl, inr}
 use mathlib.Core.Bool.{Bool, true, false, cond}
@@ -20,7 +21,6 @@ use Rattle.reading.specs.declared.Quantity.TheVariants as read
 use Rattle.reading.specs.declared.Answer.TheVariants.{Reading}
 use Rattle.meter.specs.declared.samples.Sample.{Sample}
 use Rattle.meter.specs.declared.given.Given.{Given}
-use Rattle.meter.specs.declared.Answer.TheVariants.{Accepted}
 use Rattle.meter.specs.declared.Meter.{Meter}
 use Rattle.meter.specs.Samples.{in_force, sample_ok}
 use Rattle.meter.specs.Groups.{code_of}
@@ -138,7 +138,7 @@ module _ (v : View) (good : T (passes v)) where
 
   -- ---- what is read
 
-  module _ (g : Given) (xs : List Event) (made : (new_of g).answer ≡ Accepted) where
+  module _ (g : Given) (xs : List Event) (made : (new_of g).answer ≡ Ok tt) where
     abbrev first : Meter
     first = (new_of g).meter
 

@@ -1,4 +1,5 @@
 -- A new meter's energies are far below their tops for 300 seconds, so that every one is accepted; each joins the window, and the last fills it.
+use Rattle.std.specs.Prelude.{Ok}
 use mathlib.Core.Path.{◌≡◌, refl, ap, ◌∙◌}
 use mathlib.Core.Bool.{Bool, true, false, ◌&&◌, cond}
 use mathlib.Core.List.{[], ◌∷◌}
@@ -21,7 +22,6 @@ use Rattle.reading.specs.declared.Quantity.TheVariants as read
 use Rattle.reading.specs.declared.Answer.TheVariants.{Reading}
 use Rattle.meter.specs.declared.samples.Sample.{Sample}
 use Rattle.meter.specs.declared.energies.Energy.{Energy}
-use Rattle.meter.specs.declared.Answer.TheVariants.{Accepted}
 use Rattle.meter.specs.declared.given.Given.{Given}
 use Rattle.meter.specs.declared.Meter.{Meter}
 use Rattle.meter.specs.Samples.{in_force, sample_ok, sample_of}
@@ -76,7 +76,7 @@ record Young (t k : ℕ) (m : Meter) : Type 0 where
   pub small : (e : ℕ) → value_of (energy_at e m) ≤ k * top_power
 
 module _ (t : ℕ) (s : Sample) (ok : sample_ok t s ≡ true) where
-  taken : (k : ℕ) (m : Meter) → k < 300 → Young t k m → (after_of m s).answer ≡ Accepted
+  taken : (k : ℕ) (m : Meter) → k < 300 → Young t k m → (after_of m s).answer ≡ Ok tt
   taken k m few y =
       (sample_answers m s).accepted.1
       (y.within, ap (λ (n : ℕ). sample_ok n s) y.ratio ∙ ok, top_room m s (λ e. omega (arith, y.small e, carries_most e t s ok, few)))
@@ -96,7 +96,7 @@ module _ (t : ℕ) (s : Sample) (ok : sample_ok t s ≡ true) where
     small = λ e. omega (arith, after_adds e m s, added_most e m, y.small e);
   }
 
-young : (g : Given) → (new_of g).answer ≡ Accepted → Young (t_of g.ratios) 0 (new_of g).meter
+young : (g : Given) → (new_of g).answer ≡ Ok tt → Young (t_of g.ratios) 0 (new_of g).meter
 young g made = record {
   within = made_within g made;
   ratio = ap (λ (m : Meter). meter_t m) (new_blank g);
@@ -186,7 +186,7 @@ alone zero = refl
 alone (suc x) = rw (lt-leb (suc x) 0 (omega arith)) refl
 
 module _ (v : View) (good : T (passes v)) where
-  pub window_fills : (g : Given) (x : ℕ) → (new_of g).answer ≡ Accepted → x ≤ power_limit (t_of g.ratios) → WindowFills v g x
+  pub window_fills : (g : Given) (x : ℕ) → (new_of g).answer ≡ Ok tt → x ≤ power_limit (t_of g.ratios) → WindowFills v g x
   window_fills g x made most =
       let first = young g made in
       let filled = closes (t_of g.ratios) x most v 299 0 _ refl first in

@@ -1,4 +1,5 @@
 -- All that is stated of the board, by its five outcomes and by what a heeded frame gives.
+use Rattle.std.specs.Prelude.{Err, None, Ok, Some}
 use mathlib.Core.Path.{◌≡◌, refl, sym, ap, ◌∙◌}
 use mathlib.Core.Logic.{◌↔◌, ◌⊎◌, inl, inr}
 use mathlib.Core.Bool.{Bool, true, false, cond, false≢true}
@@ -27,7 +28,6 @@ use Rattle.meter.specs.declared.Meter.{Meter}
 use Rattle.meter.specs.Groups.{code_of, with_standard, with_output}
 use Rattle.meter.specs.Meters.{meter_ok}
 use Rattle.board.specs.declared.Reply.{Reply}
-use Rattle.board.specs.declared.Reply.TheVariants.{Silent, Sent, Refused}
 use Rattle.store.specs.Writes.{to_standard, stored_of, verdict_told}
 use Rattle.board.specs.Board.{Outcome, reply_told, board_in}
 use Rattle.demands.specs.Frames.{unheard, seen_by, writes, Heeds, Answers, SendsError, ReadErrs, WriteErrs, Quiet, Stores, Altered, Opened, FrameGives, FramesWhen, Obeys, Untouched, WindowOpened, RepliesSealed, BufferUnseen}
@@ -45,15 +45,15 @@ use Rattle.demands.proofs.Replies.Faults.{unknown, bad_read, bad_write}
 
 -- the numbers of a reply give it back
 pub reply_back : (a b : Reply) → reply_told a ≡ reply_told b → a ≡ b
-reply_back Silent Silent e = refl
-reply_back Silent (Sent n) e = absurd (omega (arith, ap case_in e))
-reply_back Silent (Refused r) e = absurd (omega (arith, ap case_in e))
-reply_back (Sent n) Silent e = absurd (omega (arith, ap case_in e))
-reply_back (Sent n) (Sent k) e = ap Sent (ap number_in e)
-reply_back (Sent n) (Refused r) e = absurd (omega (arith, ap case_in e))
-reply_back (Refused r) Silent e = absurd (omega (arith, ap case_in e))
-reply_back (Refused r) (Sent n) e = absurd (omega (arith, ap case_in e))
-reply_back (Refused r) (Refused s) e = ap Refused (one_reason_each.refusals r s (ap number_in e))
+reply_back (Ok None) (Ok None) e = refl
+reply_back (Ok None) (Ok (Some n)) e = absurd (omega (arith, ap case_in e))
+reply_back (Ok None) (Err r) e = absurd (omega (arith, ap case_in e))
+reply_back (Ok (Some n)) (Ok None) e = absurd (omega (arith, ap case_in e))
+reply_back (Ok (Some n)) (Ok (Some k)) e = ap (λ (n : ℕ). Ok (Some n)) (ap number_in e)
+reply_back (Ok (Some n)) (Err r) e = absurd (omega (arith, ap case_in e))
+reply_back (Err r) (Ok None) e = absurd (omega (arith, ap case_in e))
+reply_back (Err r) (Ok (Some n)) e = absurd (omega (arith, ap case_in e))
+reply_back (Err r) (Err s) e = ap Err (one_reason_each.refusals r s (ap number_in e))
 
 abbrev said : Outcome → Reply
 said o = o.handled.reply
@@ -113,14 +113,14 @@ module _ (v : View) (good : T (passes v)) where
     only n (by_record e h) = inl e
     only n (by_buffer e h k) = inr e
 
-    silent_to : Case v m frame b → said (board_in v m frame b) ≡ Silent → (meter_ok m ≡ true) × (256 ≤ length b) × Quiet m frame
+    silent_to : Case v m frame b → said (board_in v m frame b) ≡ Ok None → (meter_ok m ≡ true) × (256 ≤ length b) × Quiet m frame
     silent_to (out h e) r = apart (λ z. omega arith) (heard_as_lem e r)
     silent_to (short h k e) r = apart (λ z. omega arith) (heard_as_lem e r)
     silent_to (unheeded h k q e) r = (h, k, inl q)
     silent_to (for_all bytes n h z g e) r = (h.within, h.room, inr z)
     silent_to (for_one bytes n a g e) r = apart (λ z. omega arith) (heard_as_lem e r)
 
-    silent_from : Case v m frame b → meter_ok m ≡ true → 256 ≤ length b → Quiet m frame → said (board_in v m frame b) ≡ Silent
+    silent_from : Case v m frame b → meter_ok m ≡ true → 256 ≤ length b → Quiet m frame → said (board_in v m frame b) ≡ Ok None
     silent_from (out h e) k l q = absurd (false≢true (sym h ∙ k))
     silent_from (short h s e) k l q = absurd (omega arith)
     silent_from (unheeded h s p e) k l q = ap said e
@@ -197,7 +197,7 @@ module _ (v : View) (good : T (passes v)) where
     gives_kept bytes n h (stores w j e k) = inr (h, (w, j), k)
 
   module _ (m : Meter) (frame b : List ℕ) where
-    refused : Case v m frame b → (reason : Refusal) → said (board_in v m frame b) ≡ Refused reason → ((board_in v m frame b).handled.meter ≡ m) × ((board_in v m frame b).buffer ≡ b)
+    refused : Case v m frame b → (reason : Refusal) → said (board_in v m frame b) ≡ Err reason → ((board_in v m frame b).handled.meter ≡ m) × ((board_in v m frame b).buffer ≡ b)
     refused (out h e) reason r = (ap (λ (o : Outcome). o.handled.meter) e, ap (λ (o : Outcome). o.buffer) e)
     refused (short h k e) reason r = (ap (λ (o : Outcome). o.handled.meter) e, ap (λ (o : Outcome). o.buffer) e)
     refused (unheeded h k q e) reason r = apart (λ z. omega arith) (heard_as_lem e r)
@@ -211,7 +211,7 @@ module _ (v : View) (good : T (passes v)) where
     not_heeded (for_all bytes n h z g e) q = absurd (false≢true (sym h.heard ∙ q))
     not_heeded (for_one bytes n a g e) q = absurd (false≢true (sym a.heeds.heard ∙ q))
 
-    silent : Case v m frame b → said (board_in v m frame b) ≡ Silent → (board_in v m frame b).buffer ≡ b
+    silent : Case v m frame b → said (board_in v m frame b) ≡ Ok None → (board_in v m frame b).buffer ≡ b
     silent (out h e) r = apart (λ z. omega arith) (heard_as_lem e r)
     silent (short h k e) r = apart (λ z. omega arith) (heard_as_lem e r)
     silent (unheeded h k q e) r = ap (λ (o : Outcome). o.buffer) e
@@ -227,7 +227,7 @@ module _ (v : View) (good : T (passes v)) where
       long : length bytes ≡ k
       after : (board_in v m frame b).buffer ≡ sets b 0 bytes
 
-    sent : Case v m frame b → (k : ℕ) → said (board_in v m frame b) ≡ Sent k → Reply-sent k
+    sent : Case v m frame b → (k : ℕ) → said (board_in v m frame b) ≡ Ok (Some k) → Reply-sent k
     sent (out h e) k r = apart (λ z. omega arith) (heard_as_lem e r)
     sent (short h l e) k r = apart (λ z. omega arith) (heard_as_lem e r)
     sent (unheeded h l q e) k r = apart (λ z. omega arith) (heard_as_lem e r)
@@ -252,7 +252,7 @@ module _ (v : View) (good : T (passes v)) where
       pub gives : Gives v m frame bytes next
       pub reply : reply_to v m frame b ≡ bytes
 
-    pub sent_reply : (k : ℕ) → said (board_in v m frame b) ≡ Sent k → Sent-bytes
+    pub sent_reply : (k : ℕ) → said (board_in v m frame b) ≡ Ok (Some k) → Sent-bytes
     sent_reply k r =
         let s = sent (case v m frame b) k r in
         record { bytes = s.bytes; next = s.next; gives = s.gives; reply = ap (λ (x : Reply). reply_in x (board_in v m frame b).buffer) r ∙ front k s }
@@ -357,7 +357,7 @@ module _ (v : View) (good : T (passes v)) where
     same (for_all bytes n h z g e) = handled e ∙ sym (handled (gives_quiet v good m frame b (moved h) z bytes n g))
     same (for_one bytes n h g e) = handled e ∙ sym (handled (gives_sent v good m frame b (own_moved h) bytes n g))
 
-    bytes_same : (n : ℕ) → said (board_in v m frame a) ≡ Sent n → take n (board_in v m frame a).buffer ≡ take n (board_in v m frame b).buffer
+    bytes_same : (n : ℕ) → said (board_in v m frame a) ≡ Ok (Some n) → take n (board_in v m frame a).buffer ≡ take n (board_in v m frame b).buffer
     bytes_same n h =
         let s = sent m frame a (case v m frame a) n h in
         let e = gives_sent v good m frame b (own_moved s.answers) s.bytes s.next s.gives in

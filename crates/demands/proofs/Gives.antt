@@ -1,4 +1,5 @@
 -- Every outcome is one of five, and what a heeded frame gives is one of five: all that is said of outcomes goes by these.
+use Rattle.std.specs.Prelude.{Err, Ok, Result}
 use mathlib.Core.Path.{◌≡◌, refl, sym, ap, ◌∙◌}
 use mathlib.Core.Bool.{Bool, true, false, not}
 use mathlib.Core.List.{List}
@@ -10,8 +11,7 @@ use Rattle.refusal.specs.declared.Refusal.TheVariants.{MeterOutOfLimits, BufferS
 use Rattle.refusal.specs.declared.ErrorCode.{ErrorCode}
 use Rattle.refusal.specs.declared.ErrorCode.TheVariants.{Function}
 use Rattle.directory.specs.declared.Span.{Span}
-use Rattle.directory.specs.declared.Span.TheVariants.{Items, Error}
-use Rattle.directory.specs.Run.{run_items}
+use Rattle.directory.specs.Run.{run_items, span}
 use Rattle.directory.specs.Views.{View}
 use Rattle.modbus.specs.Frame.{address_of, is_read}
 use Rattle.modbus.specs.Read.{read_in}
@@ -32,8 +32,8 @@ module _ (v : View) where
   -- what a heeded frame gives: the bytes of a reply, and the next meter
   pub data Gives (m : Meter) (frame : List ℕ) (bytes : List ℕ) (n : Meter) : Type 0 where
     other : is_read frame ≡ false → writes m frame ≡ false → bytes ≡ error_reply frame Function → n ≡ m → Gives m frame bytes n
-    misread : (code : ErrorCode) → is_read frame ≡ true → read_in (seen_by v m frame) frame ≡ Error code → bytes ≡ error_reply frame code → n ≡ m → Gives m frame bytes n
-    shows : (first count : ℕ) → is_read frame ≡ true → read_in (seen_by v m frame) frame ≡ Items first count → bytes ≡ data_reply frame (items_sent m.given.order (shown_of m) (run_items (seen_by v m frame).seen first count)) → n ≡ m → Gives m frame bytes n
+    misread : (code : ErrorCode) → is_read frame ≡ true → read_in (seen_by v m frame) frame ≡ Err code → bytes ≡ error_reply frame code → n ≡ m → Gives m frame bytes n
+    shows : (first count : ℕ) → is_read frame ≡ true → read_in (seen_by v m frame) frame ≡ Ok (span first count) → bytes ≡ data_reply frame (items_sent m.given.order (shown_of m) (run_items (seen_by v m frame).seen first count)) → n ≡ m → Gives m frame bytes n
     miswritten : (code : ErrorCode) → writes m frame ≡ true → (written_of m frame).verdict ≡ Wrong code → bytes ≡ error_reply frame code → n ≡ m → Gives m frame bytes n
     stores : writes m frame ≡ true → (written_of m frame).verdict ≡ Good → bytes ≡ echo_reply frame → n ≡ stored_of m frame → Gives m frame bytes n
 
@@ -45,11 +45,11 @@ module _ (v : View) where
     obeyed : sent_or_silent frame bytes next b ≡ obeyed_in (seen_by v m frame) (not (to_second m.given frame)) m frame b
 
   module _ (m : Meter) (frame b : List ℕ) where
-    given_read : is_read frame ≡ true → (span : Span) → read_in (seen_by v m frame) frame ≡ span → Given m frame b
-    given_read r (Error code) e =
+    given_read : is_read frame ≡ true → (span : Result Span ErrorCode) → read_in (seen_by v m frame) frame ≡ span → Given m frame b
+    given_read r (Err code) e =
         let same : read_reply (seen_by v m frame) m.given.order (shown_of m) frame ≡ error_reply frame code = ap (read_bytes (seen_by v m frame) m.given.order (shown_of m) frame) e in
         record { bytes = read_reply (seen_by v m frame) m.given.order (shown_of m) frame; next = m; gives = misread code r e same refl; obeyed = obeys_read (seen_by v m frame) (not (to_second m.given frame)) m frame b r }
-    given_read r (Items first count) e =
+    given_read r (Ok (span first count)) e =
         let same : read_reply (seen_by v m frame) m.given.order (shown_of m) frame ≡ data_reply frame (items_sent m.given.order (shown_of m) (run_items (seen_by v m frame).seen first count)) = ap (read_bytes (seen_by v m frame) m.given.order (shown_of m) frame) e in
         record { bytes = read_reply (seen_by v m frame) m.given.order (shown_of m) frame; next = m; gives = shows first count r e same refl; obeyed = obeys_read (seen_by v m frame) (not (to_second m.given frame)) m frame b r }
 

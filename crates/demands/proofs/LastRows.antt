@@ -1,4 +1,5 @@
 -- Demand 3's readings, with the row of the table put in for the step. The largest energy is short of 100,000,000 MWh, so its wrap is 0.
+use Rattle.std.specs.Prelude.{Ok}
 use mathlib.Core.Path.{◌≡◌, sym, ap, ◌∙◌}
 use Prim.Native.Nat.{ℕ, ◌*◌, ◌/◌, ◌%◌, ◌≤◌, ◌<◌}
 use native.Mathlib.Nat.{div-div-eq-div-mul}
@@ -7,7 +8,6 @@ use lib.Dec.{T}
 use Rattle.ratio.specs.Ratios.{t_of}
 use Rattle.ratio.specs.Steps.{step_of}
 use Rattle.ratio.proofs.Steps.{step_rows}
-use Rattle.counts.specs.declared.Joined.TheVariants as joined
 use Rattle.counts.specs.Counting.{join_of}
 use Rattle.counts.proofs.Joins.{join_split}
 use Rattle.directory.specs.Views.{View, passes}
@@ -37,7 +37,7 @@ module _ (v : View) (good : T (passes v)) where
           joins =
               sym (λ i. join_of h.given.ratios (record { 0 = steps i % 100000000 }) (steps i / 100000000))
               ∙ join_split.counts h.given.ratios (whole v good h e four) (ratios_ok_lem v good h e four)
-              ∙ (λ i. joined.Energy (record { 0 = steps i * row i }));
+              ∙ (λ i. Ok (record { 0 = steps i * row i }));
         }
 
     by_megawatt_hours : 1000000 ≤ t → CountedIn v 1000000 h e

@@ -1,4 +1,5 @@
 -- A history is made of what it asks for, and the read of one item polls it; after typed events a record is as a program holds it, so the round trip holds of it.
+use Rattle.std.specs.Prelude.{Ok}
 use mathlib.Core.Path.{◌≡◌, refl, ap, ◌∙◌}
 use mathlib.Core.Logic.{inl, inr}
 use mathlib.Core.Bool.{Bool, true, false}
@@ -12,7 +13,6 @@ use Rattle.directory.specs.Item.{none}
 use Rattle.directory.specs.Views.{View, passes}
 use Rattle.directory.specs.Tenant.{tenant_of}
 use Rattle.modbus.specs.Read.{read_in}
-use Rattle.meter.specs.declared.Answer.TheVariants.{Accepted}
 use Rattle.meter.specs.declared.given.Given.{Given}
 use Rattle.meter.specs.declared.Meter.{Meter}
 use Rattle.meter.specs.Samples.{no_sample}
@@ -65,13 +65,13 @@ module _ (v : View) (good : T (passes v)) where
       at : i + 0 ≡ i
       at = omega arith
 
-  poll : (g : Given) (i : ℕ) → (new_of g).answer ≡ Accepted → i < length v.seen → ItemPoll v v g g.address i
+  poll : (g : Given) (i : ℕ) → (new_of g).answer ≡ Ok tt → i < length v.seen → ItemPoll v v g g.address i
   poll g i made l =
       let known = (new_answers g).accepted.0 made in
       let request = request_for g.address (get_or v.seen i none) in
       one_item false g g.address i (pos_of_ne-zero known.1) l (to_own g request known.2 refl) (inl refl)
 
-  tenant_poll : (g : Given) (i : ℕ) → (new_of g).answer ≡ Accepted → (g.second ≡ 0 → ⊥) → i < length (tenant_of v).seen → ItemPoll v (tenant_of v) g g.second i
+  tenant_poll : (g : Given) (i : ℕ) → (new_of g).answer ≡ Ok tt → (g.second ≡ 0 → ⊥) → i < length (tenant_of v).seen → ItemPoll v (tenant_of v) g g.second i
   tenant_poll g i made some l =
       let whose = to_second_lem g (request_for g.second (get_or (tenant_of v).seen i none)) some refl in
       one_item true g g.second i (pos_of_ne-zero some) l whose (inr whose)
@@ -93,7 +93,7 @@ module _ (v : View) (good : T (passes v)) where
     pub given : m.given ≡ g
     pub typed : Typed m
 
-  pub new_held : (g : Given) → (new_of g).answer ≡ Accepted → Held g (new_of g).meter
+  pub new_held : (g : Given) → (new_of g).answer ≡ Ok tt → Held g (new_of g).meter
   new_held g made = record { within = made_within g made; given = ap (λ (x : Meter). x.given) (new_blank g); typed = (types_kept v good).new g }
 
   pub after_held : (g : Given) (m : Meter) (xs : List Event) → Held g m → AllTyped xs → Held g (after_all v m xs)

@@ -1,5 +1,6 @@
 -- What is sent in one order and read in the other has its words exchanged; as no two values of an L read as the same, it is read as its
 -- quantity exactly where they are equal.
+use Rattle.std.specs.Prelude.{Ok}
 use mathlib.Core.Path.{◌≡◌, refl, sym, ap, ap₂, subst, ◌∙◌}
 use mathlib.Core.Logic.{◌⊎◌, inl, inr}
 use mathlib.Core.Bool.{Bool, true, false, ◌&&◌}
@@ -39,7 +40,6 @@ use Rattle.board.specs.Board.{to_second, view_for}
 use Rattle.collector.specs.When.{item_at}
 use Rattle.collector.proofs.When.{impossible, possible}
 use Rattle.collector.proofs.OneByOne.{one_by_one}
-use Rattle.meter.specs.declared.Answer.TheVariants.{Accepted}
 use Rattle.meter.specs.declared.samples.Sample.{Sample}
 use Rattle.meter.specs.declared.given.Given.{Given}
 use Rattle.meter.specs.declared.Meter.{Meter}
@@ -185,7 +185,7 @@ module _ (v : View) (good : T (passes v)) where
 
   -- ---- a sample of 100,000 mV, which every new meter accepts
 
-  module _ (g : Given) (made : (new_of g).answer ≡ Accepted) where
+  module _ (g : Given) (made : (new_of g).answer ≡ Ok tt) where
     volts_ok : sample_ok (t_of g.ratios) volts ≡ true
     unfolding sample_ok
     volts_ok = ap (λ (m : Meter). sample_ok (meter_t m) m.latest) (sym (new_blank g)) ∙ (meter_parts (new_of g).meter (made_within g made)).latest

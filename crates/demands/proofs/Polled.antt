@@ -1,4 +1,5 @@
 -- The request has eight bytes with their CRC; its start finds the item again, and the item sends the words asked.
+use Rattle.std.specs.Prelude.{Ok, Some}
 use mathlib.Core.Path.{◌≡◌, refl, sym, subst}
 use mathlib.Core.Logic.{inl, inr}
 use mathlib.Core.Bool.{Bool, true, false, not, and-false}
@@ -12,10 +13,8 @@ use borrow.Author.Tests.{eq-eqb, le-ltb}
 use Rattle.crc.proofs.Laws.{intact_is_sealed}
 use Rattle.words.specs.Words.{word}
 use Rattle.directory.specs.declared.Item.{Item}
-use Rattle.directory.specs.declared.Span.TheVariants.{Items}
-use Rattle.directory.specs.declared.Found.TheVariants.{At}
 use Rattle.directory.specs.Item.{none}
-use Rattle.directory.specs.Run.{find_in, run_from, run_in}
+use Rattle.directory.specs.Run.{find_in, run_from, run_in, span}
 use Rattle.directory.specs.Views.{View, passes}
 use Rattle.directory.specs.Tenant.{tenant_of}
 use Rattle.directory.proofs.Tenant.{tenant_passes}
@@ -37,8 +36,8 @@ use Rattle.demands.proofs.Polls.{with_data}
 
 module _ (v : View) (good : T (passes v)) where
   -- an item of one word or two is a run by itself
-  module _ (i : ℕ) (start : ℕ) (it : Item) (same : get_or v.seen i none ≡ it) (found : find_in v.seen start 0 ≡ At i) where
-    alone : (n : ℕ) → it.words ≡ n → 1 ≤ n → n ≤ 2 → run_in v.seen start n ≡ Items i 1
+  module _ (i : ℕ) (start : ℕ) (it : Item) (same : get_or v.seen i none ≡ it) (found : find_in v.seen start 0 ≡ Some i) where
+    alone : (n : ℕ) → it.words ≡ n → 1 ≤ n → n ≤ 2 → run_in v.seen start n ≡ Ok (span i 1)
     unfolding run_in run_from
     alone zero e a b = absurd (omega (arith, a))
     alone (suc zero) e a b = rw (found, same, e) refl
@@ -58,7 +57,7 @@ module _ (v : View) (good : T (passes v)) where
     number : word_number request ≡ it.words
     number = omega arith
 
-    pub items : read_in v request ≡ Items i 1
+    pub items : read_in v request ≡ Ok (span i 1)
     items =
         let narrow = ruled_narrow v.seen (passes_ruled v good) i l in
         ((read_when v request).items i 1).1 (

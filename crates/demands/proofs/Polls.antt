@@ -1,4 +1,5 @@
 -- A reply to a read is a data reply: as long as it says, with its CRC, and with each item's words where the collector looks for them.
+use Rattle.std.specs.Prelude.{Err, Ok}
 use mathlib.Core.Path.{◌≡◌, refl, sym, ap, subst, ◌∙◌}
 use mathlib.Core.Logic.{◌↔◌, ◌⊎◌, inl, inr}
 use mathlib.Core.Bool.{Bool, true, false, not, false≢true, and-eq-true_iff}
@@ -19,9 +20,8 @@ use Rattle.words.specs.Words.{sent, value_at, exchanged}
 use Rattle.words.proofs.Laws.{read_back_lem, orders}
 use Rattle.ratio.specs.Ratios.{ratios_ok}
 use Rattle.directory.specs.declared.Item.{Item}
-use Rattle.directory.specs.declared.Span.TheVariants.{Items, Error}
 use Rattle.directory.specs.Item.{none}
-use Rattle.directory.specs.Run.{run_items}
+use Rattle.directory.specs.Run.{run_items, span}
 use Rattle.directory.specs.Views.{View, passes}
 use Rattle.directory.specs.Tenant.{tenant_of}
 use Rattle.directory.proofs.Order.{ruled_narrow}
@@ -117,7 +117,7 @@ module _ (v : View) (good : T (passes v)) where
 
   -- ---- the reply
 
-  module _ (m : Meter) (request b : List ℕ) (meets : Meets m request b) (a : Asks v request) (seen : read_in (seen_by v m request) request ≡ Items a.first a.count) where
+  module _ (m : Meter) (request b : List ℕ) (meets : Meets m request b) (a : Asks v request) (seen : read_in (seen_by v m request) request ≡ Ok (span a.first a.count)) where
     abbrev its : List Item
     its = run_items v.seen a.first a.count
 
@@ -312,14 +312,14 @@ module _ (v : View) (good : T (passes v)) where
     with_data = record { same = same; own = λ e. subst (λ (w : View). Asks w request ↔ (is_read (reply_to v m request b) ≡ true)) (all e) same }
 
     -- what the whole directory answers with data, and the meter does not, has error 02
-    refuses : Asks v request → is_read (reply_to v m request b) ≡ false → read_in (seen_by v m request) request ≡ Error Address
+    refuses : Asks v request → is_read (reply_to v m request b) ≡ false → read_in (seen_by v m request) request ≡ Err Address
     refuses a h = by (to_second m.given request) (λ i. false≢true (sym h ∙ same.0 (record { hears = a.hears; first = a.first; count = a.count; items = i })))
       where
-        by : (tenant : Bool) → (read_in (view_for v tenant) request ≡ Items a.first a.count → ⊥) → read_in (view_for v tenant) request ≡ Error Address
+        by : (tenant : Bool) → (read_in (view_for v tenant) request ≡ Ok (span a.first a.count) → ⊥) → read_in (view_for v tenant) request ≡ Err Address
         by false n = absurd (n a.items)
         by true n = either (tenant_reads v good request).either
           where
-            either : (read_in (tenant_of v) request ≡ read_in v request) ⊎ (read_in (tenant_of v) request ≡ Error Address) → read_in (tenant_of v) request ≡ Error Address
+            either : (read_in (tenant_of v) request ≡ read_in v request) ⊎ (read_in (tenant_of v) request ≡ Err Address) → read_in (tenant_of v) request ≡ Err Address
             either (inl e) = absurd (n (e ∙ a.items))
             either (inr e) = e
 
@@ -365,7 +365,7 @@ module _ (v : View) (good : T (passes v)) where
     meeting : Meets m p.request p.buffer
     meeting = record { within = within; room = p.room; named = subst (λ (x : Given). Names x p.request) (sym given) p.named }
 
-    seeing : read_in (seen_by v m p.request) p.request ≡ Items p.asks.first p.asks.count
+    seeing : read_in (seen_by v m p.request) p.request ≡ Ok (span p.asks.first p.asks.count)
     seeing = ap (λ (x : Given). read_in (view_for v (to_second x p.request)) p.request) given ∙ p.asks.items
 
     pub poll_reads : Shows m q → collected v m p ≡ Reading (meaning_of m q)

@@ -1,5 +1,6 @@
 -- What a heeded frame gives is what the board sends: whatever the buffer, sealed, 256 bytes at the most; and an error reply
 -- tells its code, and that nothing else was sent.
+use Rattle.std.specs.Prelude.{Err, Ok, Option, Result, Some}
 use mathlib.Core.Path.{◌≡◌, refl, sym, ap, ap₂, ◌∙◌}
 use mathlib.Core.Bool.{true, false, not}
 use mathlib.Core.List.{List, [], ◌∷◌}
@@ -15,7 +16,6 @@ use Rattle.refusal.specs.Numbers.{error_number}
 use Rattle.refusal.proofs.Distinct.{one_reason_each}
 use Rattle.crc.specs.Crc.{crc_of, on_line, sealed, intact}
 use Rattle.crc.proofs.Laws.{intact_is_sealed}
-use Rattle.directory.specs.declared.Span.TheVariants.{Error}
 use Rattle.directory.specs.Run.{run_items}
 use Rattle.directory.specs.Views.{View, passes}
 use Rattle.modbus.specs.Frame.{address_of, function_of, word_number, is_read}
@@ -24,7 +24,6 @@ use Rattle.modbus.proofs.Frames.{shaped_length}
 use Rattle.modbus.proofs.Stores.{sets_front, sets_taken}
 use Rattle.meter.specs.declared.Meter.{Meter}
 use Rattle.registers.specs.Shown.{shown_of}
-use Rattle.board.specs.declared.Reply.TheVariants.{Sent}
 use Rattle.board.specs.Reads.{items_sent, data_reply, read_bytes}
 use Rattle.board.specs.Board.{Outcome, silent_of, sent_of, sent_or_silent, obeyed_in, to_second, board_in}
 use Rattle.demands.specs.Frames.{seen_by, writes, Heeds, Answers, ReadErrs, WriteErrs}
@@ -50,7 +49,7 @@ error_sealed frame code bytes e = record { before = address_of frame ∷ (functi
 pub sent_beyond : (bytes b : List ℕ) → length bytes ≤ length b → drop (length bytes) (sets b 0 bytes) ≡ drop (length bytes) b
 sent_beyond bytes b h = ap (drop (length bytes)) (sets_front b bytes h) ∙ drop_at bytes _ (length bytes) refl
 
-pub sent_length : {k n : ℕ} → Sent k ≡ Sent n → k ≡ n
+pub sent_length : {k n : ℕ} → ◌≡◌ {A = Result (Option ℕ) Refusal} (Ok (Some k)) (Ok (Some n)) → k ≡ n
 sent_length e = cc
 
 pub sent_same : (x y : List ℕ) (m n : Meter) (b : List ℕ) → length x ≤ length b → length y ≤ length b → sent_of x m b ≡ sent_of y n b → x ≡ y
@@ -134,7 +133,7 @@ module _ (v : View) (good : T (passes v)) where
 
   pub faults : (m : Meter) (frame bytes : List ℕ) (n : Meter) (code : ErrorCode) → Gives v m frame bytes n → bytes ≡ error_reply frame code → Faults code m frame
   faults m frame bytes n code (other r w e k) h = unknown r w (one_code frame Function code (sym e ∙ h))
-  faults m frame bytes n code (misread c r s e k) h = bad_read (r, s ∙ ap Error (one_code frame c code (sym e ∙ h)))
+  faults m frame bytes n code (misread c r s e k) h = bad_read (r, s ∙ ap Err (one_code frame c code (sym e ∙ h)))
   faults m frame bytes n code (shows first count r s e k) h =
       not_data frame (items_sent m.given.order (shown_of m) (run_items (seen_by v m frame).seen first count)) code (sym e ∙ h)
   faults m frame bytes n code (miswritten c w j e k) h = bad_write (w, j ∙ ap Wrong (one_code frame c code (sym e ∙ h)))

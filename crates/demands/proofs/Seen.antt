@@ -1,4 +1,5 @@
 -- Which address a frame is judged by, and what it may ask for: at the second address a part of what the whole directory has, item by item the same.
+use Rattle.std.specs.Prelude.{Err, Ok}
 use mathlib.Core.Path.{◌≡◌, refl, sym, ap, ◌∙◌}
 use mathlib.Core.Logic.{◌⊎◌, inl, inr}
 use mathlib.Core.Bool.{Bool, true, false, ◌&&◌, not, and-eq-true_iff}
@@ -9,9 +10,8 @@ use lib.Dec.{T, eqb}
 use lib.ListN.{get_or}
 use borrow.Author.Tests.{eqb-true, eqb-false, eq-eqb, ne_eqb, not-true}
 use Rattle.refusal.specs.declared.ErrorCode.TheVariants.{Address}
-use Rattle.directory.specs.declared.Span.TheVariants.{Items, Error}
 use Rattle.directory.specs.Item.{none}
-use Rattle.directory.specs.Run.{run_items}
+use Rattle.directory.specs.Run.{run_items, span}
 use Rattle.directory.specs.Views.{View, passes}
 use Rattle.directory.specs.Tenant.{for_tenant, leading, tenant_of}
 use Rattle.directory.proofs.Errors.{no_run}
@@ -63,11 +63,11 @@ module _ (v : View) (good : T (passes v)) where
 
   -- a read of a part is one of the whole, of the same items
   pub record Whole (tenant : Bool) (frame : List ℕ) (first count : ℕ) : Type 0 where
-    pub items : read_in v frame ≡ Items first count
+    pub items : read_in v frame ≡ Ok (span first count)
     pub run : run_items (view_for v tenant).seen first count ≡ run_items v.seen first count
     pub item : (index : ℕ) → index < count → get_or (view_for v tenant).seen (first + index) none ≡ get_or v.seen (first + index) none
 
-  pub whole : (tenant : Bool) (frame : List ℕ) (first count : ℕ) → read_in (view_for v tenant) frame ≡ Items first count → Whole tenant frame first count
+  pub whole : (tenant : Bool) (frame : List ℕ) (first count : ℕ) → read_in (view_for v tenant) frame ≡ Ok (span first count) → Whole tenant frame first count
   whole false frame first count e = record { items = e; run = refl; item = λ index l. refl }
   whole true frame first count e =
       let inside = (legal_read (tenant_of v) (tenant_passes v good) e).inside in
@@ -77,6 +77,6 @@ module _ (v : View) (good : T (passes v)) where
         item = λ index l. (tenant_sees v good).same (first + index) (omega (arith, inside, l));
       }
     where
-      by : (read_in (tenant_of v) frame ≡ read_in v frame) ⊎ (read_in (tenant_of v) frame ≡ Error Address) → read_in v frame ≡ Items first count
+      by : (read_in (tenant_of v) frame ≡ read_in v frame) ⊎ (read_in (tenant_of v) frame ≡ Err Address) → read_in v frame ≡ Ok (span first count)
       by (inl same) = sym same ∙ e
       by (inr h) = no_run Address h e

@@ -1,5 +1,6 @@
 -- Of our own the figure is what demand 3 speaks of. After one sample of ten Wh the exact energy is a step higher, after two it is two higher, and no figure is within less than a step of both; the step is
 -- positive, so the bounds fix the count.
+use Rattle.std.specs.Prelude.{Ok}
 use mathlib.Core.Path.{◌≡◌, refl, sym, ap, ◌∙◌}
 use mathlib.Core.Bool.{true, ◌&&◌}
 use mathlib.Core.List.{List, [], ◌∷◌}
@@ -21,7 +22,6 @@ use Rattle.directory.specs.Quantity.{quantity, energy_count, wrap, pos_ea}
 use Rattle.directory.specs.Views.{View, passes}
 use Rattle.reading.specs.declared.Answer.{Answer}
 use Rattle.average.specs.Windows.{coded_minutes, after_second, average_ok}
-use Rattle.meter.specs.declared.Answer.TheVariants.{Accepted}
 use Rattle.meter.specs.declared.given.Given.{Given}
 use Rattle.meter.specs.declared.samples.Powers.{Powers}
 use Rattle.meter.specs.declared.samples.Sample.{Sample}
@@ -67,7 +67,7 @@ first_within t p h =
     fits : (x : ℕ) → x ≤ top_power → 0 + (0 + x) / 360000 ≤ top_wh
     fits x h = omega (arith, h)
 
-takes : (g : Given) (s : Sample) → (new_of g).answer ≡ Accepted → sample_ok (t_of g.ratios) s ≡ true → (after_of (new_of g).meter s).answer ≡ Accepted
+takes : (g : Given) (s : Sample) → (new_of g).answer ≡ Ok tt → sample_ok (t_of g.ratios) s ≡ true → (after_of (new_of g).meter s).answer ≡ Ok tt
 takes g s made h =
     let blank = new_blank g in
     let parts = sample_parts (t_of g.ratios) s h in
@@ -79,7 +79,7 @@ module _ (v : View) (good : T (passes v)) where
   -- ---- our own
 
   -- the history of a new meter with nothing between
-  module _ (g : Given) (made : (new_of g).answer ≡ Accepted) (e : ℕ) (four : e < 4) (register : Poll v g (quantity energy_count e)) (wrapped : Poll v g (quantity wrap e)) where
+  module _ (g : Given) (made : (new_of g).answer ≡ Ok tt) (e : ℕ) (four : e < 4) (register : Poll v g (quantity energy_count e)) (wrapped : Poll v g (quantity wrap e)) where
     abbrev told_by : List Event → History v
     told_by xs = record { given = g; made = made; events = xs; between = []; idle = (not_empty v good).idle (after_all v (new_of g).meter xs) [] [] }
 

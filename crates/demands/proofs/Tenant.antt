@@ -1,5 +1,6 @@
 -- A tenant's frame is judged over the items for it, and may not write; what these show is all that its replies are made of. The four energies, the
 -- sample, the ratios and three of request 1's figures are all that is shown but setup.
+use Rattle.std.specs.Prelude.{Ok, Some}
 use mathlib.Core.Path.{◌≡◌, refl, sym, ap, ap₂, ◌∙◌}
 use mathlib.Core.Logic.{◌⊎◌, inl, inr}
 use mathlib.Core.Bool.{Bool, true, false, ◌&&◌, ◌||◌, not, cond, and-false, false≢true}
@@ -23,10 +24,9 @@ use Rattle.counts.specs.Counting.{register_of}
 use Rattle.counts.proofs.Joins.{join_split}
 use Rattle.setup.specs.Ranges.{word_ok, group_ok}
 use Rattle.directory.specs.declared.Item.{Item}
-use Rattle.directory.specs.declared.Span.TheVariants.{Items}
 use Rattle.directory.specs.Item.{none}
 use Rattle.directory.specs.Quantity.{quantity, low, high, wrap, plain, word_identifier, setup2000}
-use Rattle.directory.specs.Run.{run_items}
+use Rattle.directory.specs.Run.{run_items, span}
 use Rattle.directory.specs.Views.{View, passes}
 use Rattle.directory.specs.Tenant.{for_tenant, tenant_of, hidden, hides}
 use Rattle.directory.proofs.Order.{every_at}
@@ -52,7 +52,6 @@ use Rattle.registers.specs.Typed.{Typed}
 use Rattle.registers.proofs.Widths.{typed_shows, setup_unseen}
 use Rattle.collector.proofs.Places.{run_length, run_at}
 use Rattle.collector.specs.When.{Asks, value_in}
-use Rattle.board.specs.declared.Reply.TheVariants.{Sent}
 use Rattle.board.specs.Reads.{items_sent, data_reply, read_reply}
 use Rattle.board.specs.Board.{Outcome, silent_of, sent_of, to_second, address_for, view_for, board_in}
 use Rattle.board.proofs.Cases.{board_silent, board_obeys, obeys_read}
@@ -157,10 +156,10 @@ module _ (v : View) (good : T (passes v)) where
     both_see : seen_by v m frame ≡ seen_by v n frame
     both_see = second_seen m frame t v ∙ sym (second_seen n frame u v)
 
-    run_same : (first count : ℕ) → read_in (seen_by v m frame) frame ≡ Items first count → items_sent m.given.order (shown_of m) (run_items (seen_by v m frame).seen first count) ≡ items_sent n.given.order (shown_of n) (run_items (seen_by v n frame).seen first count)
+    run_same : (first count : ℕ) → read_in (seen_by v m frame) frame ≡ Ok (span first count) → items_sent m.given.order (shown_of m) (run_items (seen_by v m frame).seen first count) ≡ items_sent n.given.order (shown_of n) (run_items (seen_by v n frame).seen first count)
     run_same first count s =
         let w = tenant_of v in
-        let read : read_in w frame ≡ Items first count = ap (λ (x : View). read_in x frame) (sym (second_seen m frame t v)) ∙ s in
+        let read : read_in w frame ≡ Ok (span first count) = ap (λ (x : View). read_in x frame) (sym (second_seen m frame t v)) ∙ s in
         let inside = (legal_read w (tenant_passes v good) read).inside in
         let long = run_length w.seen first count inside in
         ap (λ (x : View). items_sent m.given.order (shown_of m) (run_items x.seen first count)) (second_seen m frame t v)
@@ -287,7 +286,7 @@ module _ (v : View) (good : T (passes v)) where
       second : to_second x.given request ≡ true
       second = to_second_lem x.given request (λ z. some (e ∙ z)) e
 
-      seen : read_in (seen_by v x request) request ≡ Items i 1
+      seen : read_in (seen_by v x request) request ≡ Ok (span i 1)
       seen = ap (λ (w : View). read_in w request) (second_seen x request second v) ∙ tenant_read.items
 
       stands : value_in v x.given.order asks (reply_to v x request b) 0 ≡ shown_of x it.quantity
@@ -366,7 +365,7 @@ module _ (v : View) (good : T (passes v)) where
     begins bytes x (miswritten code w j e k) = absurd (false≢true (sym (second_reads m frame t) ∙ w))
     begins bytes x (stores w j e k) = absurd (false≢true (sym (second_reads m frame t) ∙ w))
 
-    address : (n : ℕ) → (board_in v m frame b).handled.reply ≡ Sent n → address_of (reply_to v m frame b) ≡ m.given.second
+    address : (n : ℕ) → (board_in v m frame b).handled.reply ≡ Ok (Some n) → address_of (reply_to v m frame b) ≡ m.given.second
     address n e =
         let s = sent_reply v good m frame b n e in
         ap address_of s.reply ∙ begins s.bytes s.next s.gives ∙ second_named m.given frame t

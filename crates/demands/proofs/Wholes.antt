@@ -1,5 +1,6 @@
 -- Each item that a poll asks for is read as its quantity, so none is refused and all stand in the rows; the cells of an energy are what the
 -- collector reads of it one by one.
+use Rattle.std.specs.Prelude.{Err, Ok, Result}
 use mathlib.Core.Path.{◌≡◌, refl, sym, ap, ap₂, ◌∙◌}
 use mathlib.Core.Logic.{◌⊎◌, inl, inr}
 use mathlib.Core.List.{List, [], ◌∷◌}
@@ -10,10 +11,9 @@ use lib.ListN.{length, get_or}
 use Rattle.refusal.specs.Numbers.{refused_by}
 use Rattle.counts.specs.Counting.{join_of, join_halves_of}
 use Rattle.directory.specs.declared.Span.{Span}
-use Rattle.directory.specs.declared.Span.TheVariants as span
 use Rattle.directory.specs.Quantity.{quantity, energy_count, wrap, low, high}
 use Rattle.directory.specs.Order.{shaped}
-use Rattle.directory.specs.Run.{run_items}
+use Rattle.directory.specs.Run.{run_items, span}
 use Rattle.directory.specs.Views.{View, passes}
 use Rattle.directory.proofs.Order.{every_run}
 use Rattle.directory.proofs.Views.{tested_shaped, passes_tested, passes_room}
@@ -44,9 +44,9 @@ use Rattle.demands.proofs.NotEmpty.{Held, new_held, after_held}
 use Rattle.demands.proofs.Demand3.{demand_3}
 
 -- how many items a read asks for
-abbrev counted : Span → ℕ
-counted (span.Items first count) = count
-counted (span.Error code) = 0
+abbrev counted : Result Span ErrorCode → ℕ
+counted (Ok (span first count)) = count
+counted (Err code) = 0
 
 module _ (v : View) (good : T (passes v)) where
   module _ (m : Meter) {g : Given} (held : Held v good g m) {q : ℕ} (p : Poll v g q) (rows : TwoRows) where

@@ -1,6 +1,6 @@
 -- Paper 02, request 1, over histories: the accepted samples laid out in windows, with no look at the figures that the record keeps,
 -- and what a collector reads of them, through the bytes of the replies.
-use Rattle.std.specs.Prelude.{◌≡◌, ℕ, ◌+◌, ◌/◌, ◌≤◌, ◌<◌, cond, List, [], ◌∷◌, map, leb, eqb, pos, length, get_or, replicate}
+use Rattle.std.specs.Prelude.{◌≡◌, ℕ, ◌+◌, ◌/◌, ◌≤◌, ◌<◌, cond, List, [], ◌∷◌, map, leb, eqb, pos, length, get_or, replicate, Ok}
 use Rattle.signed.specs.Signs.{above_of}
 use Rattle.ratio.specs.Ratios.{t_of}
 use Rattle.ratio.specs.Powers.{power_limit}
@@ -9,7 +9,6 @@ use Rattle.directory.specs.Quantity.{quantity, power, plain, average, peak, minu
 use Rattle.directory.specs.Views.{View}
 use Rattle.reading.specs.declared.Quantity.TheVariants as read
 use Rattle.reading.specs.declared.Answer.TheVariants.{Reading}
-use Rattle.meter.specs.declared.Answer.TheVariants.{Accepted}
 use Rattle.meter.specs.declared.given.Given.{Given}
 use Rattle.meter.specs.declared.Meter.{Meter}
 use Rattle.meter.specs.Samples.{in_force, sample_of}
@@ -124,7 +123,7 @@ module _ (v : View) where
 
   -- STATEMENT: so it is of every accepted new meter, whatever came to it, and of every load within the power limit
   pub record AveragesAlways : Type 0 where
-    pub reads : (g : Given) (xs : List Event) → (new_of g).answer ≡ Accepted → AveragesRead g xs
+    pub reads : (g : Given) (xs : List Event) → (new_of g).answer ≡ Ok tt → AveragesRead g xs
     pub fills :
-        (g : Given) (load : ℕ) → (new_of g).answer ≡ Accepted → load ≤ power_limit (t_of g.ratios) →
+        (g : Given) (load : ℕ) → (new_of g).answer ≡ Ok tt → load ≤ power_limit (t_of g.ratios) →
         WindowFills g load

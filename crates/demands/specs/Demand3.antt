@@ -1,9 +1,8 @@
 -- Demand 3: what one energy, read in any of its three places, is worth. From a new meter, after any samples and frames, refused ones among
 -- them, through the bytes of the replies and what the collector makes of them.
-use Rattle.std.specs.Prelude.{◌≡◌, ℕ, ◌+◌, ◌*◌, ◌≤◌, ◌<◌, false, List, length}
+use Rattle.std.specs.Prelude.{◌≡◌, ℕ, ◌+◌, ◌*◌, ◌≤◌, ◌<◌, false, List, length, Ok}
 use Rattle.counts.specs.declared.Count.{Count}
 use Rattle.counts.specs.declared.WattHours.{WattHours}
-use Rattle.counts.specs.declared.Joined.TheVariants as joined
 use Rattle.ratio.specs.Ratios.{t_of}
 use Rattle.ratio.specs.Steps.{step_of}
 use Rattle.counts.specs.Counting.{energy_of, join_of, join_halves_of}
@@ -15,7 +14,6 @@ use Rattle.reading.specs.declared.Answer.TheVariants.{Reading}
 use Rattle.board.specs.Board.{to_second, view_for}
 use Rattle.collector.specs.Collector.{collector_in}
 use Rattle.collector.specs.When.{Asks, item_at}
-use Rattle.meter.specs.declared.Answer.TheVariants.{Accepted}
 use Rattle.meter.specs.declared.given.Given.{Given}
 use Rattle.meter.specs.declared.Meter.{Meter}
 use Rattle.meter.specs.Meters.{new_of}
@@ -33,7 +31,7 @@ module _ (v : View) where
   -- a history with two moments: a new meter and any events, then events with no accepted sample between (the first read is one of these)
   pub record History : Type 0 where
     pub given : Given
-    pub made : (new_of given).answer ≡ Accepted
+    pub made : (new_of given).answer ≡ Ok tt
     pub events : List Event
     pub between : List Event
     pub idle : any_taken v (after_all v (new_of given).meter events) between ≡ false
@@ -73,7 +71,7 @@ module _ (v : View) where
     pub whole : WattHours
     pub reads : register ≡ Reading (read.Energy count (step_of (t_of h.given.ratios)) (energy_of (t_of h.given.ratios) count.0))
     pub wraps : wrapped ≡ Reading (read.Wrap turns)
-    pub joins : join_of h.given.ratios count turns ≡ joined.Energy whole
+    pub joins : join_of h.given.ratios count turns ≡ Ok whole
     pub bounds : Bounds (exact_at e h) (step_of (t_of h.given.ratios)) whole.0
 
   -- Low and High are read, they join, and what they come to is within the bounds of 1 Wh
@@ -83,7 +81,7 @@ module _ (v : View) where
     pub whole : WattHours
     pub reads : lower ≡ Reading (read.Low lows)
     pub heads : upper ≡ Reading (read.High highs)
-    pub joins : join_halves_of lows highs ≡ joined.Energy whole
+    pub joins : join_halves_of lows highs ≡ Ok whole
     pub bounds : Bounds (exact_at e h) 1 whole.0
 
   -- an energy is read so: from an item of its register, wherever it stands, with its wrap, and from its Low with its High, in either

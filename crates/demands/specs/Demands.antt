@@ -1,5 +1,5 @@
 -- The customer's three demands: what each is in one line, and the statements that it comes to. Every STATEMENT of the tree is a part.
-use Rattle.std.specs.Prelude.{◌≡◌, Bool, true, List, ℕ, T}
+use Rattle.std.specs.Prelude.{◌≡◌, Bool, true, List, ℕ, T, Ok}
 use Rattle.refusal.specs.Numbers.{OneReasonEach}
 use Rattle.crc.specs.Crc.{CrcFits, IntactIsSealed, Put, PutSeals}
 use Rattle.words.specs.Words.{ByteSent, ReadBack, Orders}
@@ -10,10 +10,9 @@ use Rattle.ratio.specs.Steps.{RowsMeet, StepRows}
 use Rattle.counts.specs.declared.Count.{Count}
 use Rattle.counts.specs.Counting.{JoinSplit}
 use Rattle.directory.specs.declared.Item.{Item}
-use Rattle.directory.specs.declared.Span.TheVariants.{Items}
 use Rattle.directory.specs.Order.{ruled, tested}
 use Rattle.directory.specs.Rules.{DirectoryRules}
-use Rattle.directory.specs.Run.{run_in, RunSends}
+use Rattle.directory.specs.Run.{run_in, RunSends, span}
 use Rattle.directory.specs.Views.{View, passes}
 use Rattle.directory.specs.Tenant.{hides, TenantSees}
 use Rattle.own.specs.OwnRules.{OwnPasses, TenantView, ThreeTables, AveragePlaces}
@@ -103,7 +102,7 @@ pub record Ground : Type 0 where
   pub places : ThreeTables
   pub average_places : AveragePlaces
   pub runs :
-      (dir : List Item) (start words first count : ℕ) → T (ruled dir) → run_in dir start words ≡ Items first count →
+      (dir : List Item) (start words first count : ℕ) → T (ruled dir) → run_in dir start words ≡ Ok (span first count) →
       RunSends dir words first count
   pub lines : TextBack
 

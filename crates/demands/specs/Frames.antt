@@ -1,13 +1,12 @@
 -- Paper 01, "What the meter does with a frame": when each answer is given, and what stays as it was, at the own address and at the second
 -- (paper 02, request 3) alike. Request 1: when a frame opens a new window.
-use Rattle.std.specs.Prelude.{◌≡◌, ◌↔◌, ◌⊎◌, ℕ, ◌≤◌, ◌<◌, Bool, true, false, ◌&&◌, not, List, length, take, drop}
+use Rattle.std.specs.Prelude.{◌≡◌, ◌↔◌, ◌⊎◌, ℕ, ◌≤◌, ◌<◌, Bool, true, false, ◌&&◌, not, List, length, take, drop, Err, None, Ok, Some}
 use Rattle.refusal.specs.declared.Refusal.{Refusal}
 use Rattle.refusal.specs.declared.ErrorCode.{ErrorCode}
 use Rattle.refusal.specs.declared.ErrorCode.TheVariants.{Address, Data}
 use Rattle.refusal.specs.Numbers.{refused_by}
 use Rattle.crc.specs.Crc.{intact}
-use Rattle.directory.specs.declared.Span.TheVariants.{Items, Error}
-use Rattle.directory.specs.Run.{run_items}
+use Rattle.directory.specs.Run.{run_items, span}
 use Rattle.directory.specs.Views.{View}
 use Rattle.modbus.specs.Frame.{address_of, silence, is_read, is_write}
 use Rattle.modbus.specs.Read.{read_in}
@@ -17,7 +16,6 @@ use Rattle.average.specs.Windows.{recoded_by}
 use Rattle.meter.specs.declared.Meter.{Meter}
 use Rattle.meter.specs.Groups.{code_of}
 use Rattle.meter.specs.Meters.{meter_ok}
-use Rattle.board.specs.declared.Reply.TheVariants.{Silent, Sent, Refused}
 use Rattle.board.specs.Reads.{items_sent, data_reply}
 use Rattle.registers.specs.Shown.{shown_of}
 use Rattle.store.specs.declared.Verdict.TheVariants.{Good, Wrong}
@@ -62,7 +60,7 @@ Stores m frame = (writes m frame ≡ true) × ((written_of m frame).verdict ≡ 
 
 -- a read that an error code is due to
 abbrev pub ReadErrs : View → ErrorCode → List ℕ → Type 0
-ReadErrs v code frame = (is_read frame ≡ true) × (read_in v frame ≡ Error code)
+ReadErrs v code frame = (is_read frame ≡ true) × (read_in v frame ≡ Err code)
 
 -- all that a legal write alters: its group is stored and, where this changes the code at 0x200a, a new window is opened (request 1)
 pub record Altered (m : Meter) (frame b : List ℕ) (n : Meter) : Type 0 where
@@ -101,7 +99,7 @@ module _ (v : View) (m : Meter) (frame b : List ℕ) where
     pub row_1 : FrameGives (refused_by 1) ↔ (meter_ok m ≡ false)
     pub row_2 : FrameGives (refused_by 2) ↔ ((meter_ok m ≡ true) × (length b < 256))
     pub only : (n : ℕ) → FrameGives (refused_by n) → (n ≡ 1) ⊎ (n ≡ 2)
-    pub silent : (done.handled.reply ≡ Silent) ↔ ((meter_ok m ≡ true) × (256 ≤ length b) × Quiet m frame)
+    pub silent : (done.handled.reply ≡ Ok None) ↔ ((meter_ok m ≡ true) × (256 ≤ length b) × Quiet m frame)
     pub error_01 : SendsError 1 ↔ (Answers m frame b × (is_read frame ≡ false) × (writes m frame ≡ false))
     pub error_02 : SendsError 2 ↔ (Answers m frame b × (ReadErrs (seen_by v m frame) Address frame ⊎ WriteErrs Address m frame))
     pub error_03 : SendsError 3 ↔ (Answers m frame b × (ReadErrs (seen_by v m frame) Data frame ⊎ WriteErrs Data m frame))
@@ -110,7 +108,7 @@ module _ (v : View) (m : Meter) (frame b : List ℕ) where
   -- and silence
   pub record Obeys : Type 0 where
     pub reads :
-        (first count : ℕ) → Answers m frame b → is_read frame ≡ true → read_in (seen_by v m frame) frame ≡ Items first count →
+        (first count : ℕ) → Answers m frame b → is_read frame ≡ true → read_in (seen_by v m frame) frame ≡ Ok (span first count) →
         done ≡ sent_of (data_reply frame (items_sent m.given.order (shown_of m) (run_items (seen_by v m frame).seen first count))) m b
     pub writes : Answers m frame b → Stores m frame → done ≡ sent_of (echo_reply frame) (stored_of m frame) b
     pub for_all : Heeds m frame b → address_of frame ≡ 0 → Stores m frame → done ≡ silent_of (stored_of m frame) b
@@ -122,12 +120,12 @@ module _ (v : View) (m : Meter) (frame b : List ℕ) where
   -- STATEMENT: a refusal changes nothing, nor does a frame that is damaged or foreign; silence leaves the buffer; bytes beyond a
   -- reply stay; only a legal write that the meter heeds alters the record, and just so; address 0 never has a reply
   pub record Untouched : Type 0 where
-    pub refused : (reason : Refusal) → done.handled.reply ≡ Refused reason → Same
+    pub refused : (reason : Refusal) → done.handled.reply ≡ Err reason → Same
     pub unheard : unheard m frame ≡ true → Same
-    pub silent : done.handled.reply ≡ Silent → done.buffer ≡ b
-    pub beyond : (n : ℕ) → done.handled.reply ≡ Sent n → drop n done.buffer ≡ drop n b
+    pub silent : done.handled.reply ≡ Ok None → done.buffer ≡ b
+    pub beyond : (n : ℕ) → done.handled.reply ≡ Ok (Some n) → drop n done.buffer ≡ drop n b
     pub altered : (done.handled.meter ≡ m) ⊎ Altered m frame b done.handled.meter
-    pub for_all : (n : ℕ) → address_of frame ≡ 0 → done.handled.reply ≡ Sent n → ⊥
+    pub for_all : (n : ℕ) → address_of frame ≡ 0 → done.handled.reply ≡ Ok (Some n) → ⊥
 
   -- the code of the window is another after the frame
   abbrev Recoded : Type 0
@@ -142,12 +140,12 @@ module _ (v : View) (m : Meter) (frame b : List ℕ) where
 
   -- STATEMENT: every reply's CRC is right, and its length at most 256
   pub record RepliesSealed : Type 0 where
-    pub long : (n : ℕ) → done.handled.reply ≡ Sent n → n ≤ 256
-    pub whole : (n : ℕ) → done.handled.reply ≡ Sent n → intact (take n done.buffer) ≡ true
+    pub long : (n : ℕ) → done.handled.reply ≡ Ok (Some n) → n ≤ 256
+    pub whole : (n : ℕ) → done.handled.reply ≡ Ok (Some n) → intact (take n done.buffer) ≡ true
 
   -- STATEMENT: what stood in the buffer is never seen: with room, answer, record and reply bytes are the same for any other
   pub record BufferUnseen : Type 0 where
     pub same : (a : List ℕ) → 256 ≤ length a → 256 ≤ length b → (board_in v m frame a).handled ≡ done.handled
     pub bytes :
-        (a : List ℕ) (n : ℕ) → 256 ≤ length a → 256 ≤ length b → (board_in v m frame a).handled.reply ≡ Sent n →
+        (a : List ℕ) (n : ℕ) → 256 ≤ length a → 256 ≤ length b → (board_in v m frame a).handled.reply ≡ Ok (Some n) →
         take n (board_in v m frame a).buffer ≡ take n done.buffer

@@ -1,7 +1,6 @@
 -- Paper 02, requests 2 and 6, over histories and through the bytes: the steps in which registers count, row by row of the table. All is
 -- said of the exact energy, in numbers: the table itself is not looked at.
-use Rattle.std.specs.Prelude.{◌≡◌, ℕ, ◌*◌, ◌/◌, ◌%◌, ◌≤◌, ◌<◌}
-use Rattle.counts.specs.declared.Joined.TheVariants as joined
+use Rattle.std.specs.Prelude.{◌≡◌, ℕ, ◌*◌, ◌/◌, ◌%◌, ◌≤◌, ◌<◌, Ok}
 use Rattle.ratio.specs.Ratios.{t_of}
 use Rattle.counts.specs.Counting.{join_of}
 use Rattle.directory.specs.Quantity.{quantity, energy_count, wrap}
@@ -29,7 +28,7 @@ module _ (v : View) where
         collected v (sooner v h) p ≡ Reading (read.Wrap (steps_at step e h / 100000000))
     pub joins :
         join_of h.given.ratios (record { 0 = steps_at step e h % 100000000 }) (steps_at step e h / 100000000)
-        ≡ joined.Energy (record { 0 = steps_at step e h * step })
+        ≡ Ok (record { 0 = steps_at step e h * step })
 
   -- STATEMENT: from T = 1,000,000 up every energy is counted in steps of 1,000,000 Wh, and its wrap is always read as 0; from 100,000
   -- to 999,999 in steps of 100,000 Wh

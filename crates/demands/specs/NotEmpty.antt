@@ -1,12 +1,11 @@
 -- What `Demand3` and the other statements over histories ask for can be had, for every accepted new meter, any events, every item and
 -- every address: so they are not claims about nothing.
-use Rattle.std.specs.Prelude.{◌≡◌, ℕ, ◌+◌, ◌<◌, false, List, [], ◌∷◌, map, length, get_or}
+use Rattle.std.specs.Prelude.{◌≡◌, ℕ, ◌+◌, ◌<◌, false, List, [], ◌∷◌, map, length, get_or, Ok}
 use Rattle.directory.specs.Item.{none}
 use Rattle.directory.specs.Views.{View}
 use Rattle.directory.specs.Tenant.{tenant_of}
 use Rattle.modbus.specs.Frame.{address_of}
 use Rattle.reading.specs.declared.Answer.TheVariants.{Reading}
-use Rattle.meter.specs.declared.Answer.TheVariants.{Accepted}
 use Rattle.meter.specs.declared.given.Given.{Given}
 use Rattle.meter.specs.declared.Meter.{Meter}
 use Rattle.meter.specs.Samples.{no_sample}
@@ -37,12 +36,12 @@ module _ (v : View) where
   -- as a program hands them over
   pub record NotEmpty : Type 0 where
     pub history :
-        (g : Given) (events between : List Event) → (new_of g).answer ≡ Accepted →
+        (g : Given) (events between : List Event) → (new_of g).answer ≡ Ok tt →
         any_taken v (after_all v (new_of g).meter events) between ≡ false → HistoryOf g events between
     pub idle : (m : Meter) (buffer : List ℕ) (fs : List (List ℕ)) → any_taken v m (frames buffer fs) ≡ false
-    pub poll : (g : Given) (i : ℕ) → (new_of g).answer ≡ Accepted → i < length v.seen → ItemPoll v g g.address i
+    pub poll : (g : Given) (i : ℕ) → (new_of g).answer ≡ Ok tt → i < length v.seen → ItemPoll v g g.address i
     pub tenant_poll :
-        (g : Given) (i : ℕ) → (new_of g).answer ≡ Accepted → (g.second ≡ 0 → ⊥) → i < length (tenant_of v).seen →
+        (g : Given) (i : ℕ) → (new_of g).answer ≡ Ok tt → (g.second ≡ 0 → ⊥) → i < length (tenant_of v).seen →
         ItemPoll (tenant_of v) g g.second i
     pub typed : AllTyped (Event.sample no_sample ∷ Event.frame (0 ∷ []) [] ∷ [])
 
@@ -50,6 +49,6 @@ module _ (v : View) where
   -- that can be polled, at either address, is read as its quantity, and never refused
   pub record ReadsAlways : Type 0 where
     pub polls :
-        (g : Given) (xs : List Event) → (new_of g).answer ≡ Accepted → AllTyped xs →
+        (g : Given) (xs : List Event) → (new_of g).answer ≡ Ok tt → AllTyped xs →
         (q : ℕ) (p : Poll v g q) →
         collected v (after_all v (new_of g).meter xs) p ≡ Reading (meaning_of (after_all v (new_of g).meter xs) q)

@@ -1,6 +1,6 @@
 -- Paper 02, request 5, board and collector together, over histories and through the bytes: who names no order has the lower word first;
 -- what is read where both ends name the same order, and where they name different ones.
-use Rattle.std.specs.Prelude.{◌≡◌, ◌⊎◌, ℕ, ◌/◌, ◌%◌, List, [], ◌∷◌, map, get_or, replicate}
+use Rattle.std.specs.Prelude.{◌≡◌, ◌⊎◌, ℕ, ◌/◌, ◌%◌, List, [], ◌∷◌, map, get_or, replicate, Ok}
 use Rattle.refusal.specs.Numbers.{refused_by}
 use Rattle.crc.specs.Crc.{sealed}
 use Rattle.words.specs.declared.Order.{Order}
@@ -21,7 +21,6 @@ use Rattle.collector.specs.declared.Nameplate.{Nameplate}
 use Rattle.collector.specs.Collector.{collector_in, collector_of}
 use Rattle.collector.specs.When.{item_at}
 use Rattle.collector.specs.Whole.{Rows, whole_in, WholeGives}
-use Rattle.meter.specs.declared.Answer.TheVariants.{Accepted}
 use Rattle.meter.specs.declared.samples.Sample.{Sample}
 use Rattle.meter.specs.declared.given.Given.{Given}
 use Rattle.meter.specs.declared.Meter.{Meter}
@@ -109,7 +108,7 @@ module _ (v : View) where
     pub unnamed : (address : ℕ) (ratios : Ratios) → (new_of (given_of address ratios)).meter.given.order ≡ LowerFirst
     pub kept : (g : Given) (xs : List Event) → (after_all v (new_of g).meter xs).given.order ≡ g.order
     pub reads :
-        (g : Given) (xs : List Event) → (new_of g).answer ≡ Accepted → AllTyped xs → (q : ℕ) (p : Poll v g q) →
+        (g : Given) (xs : List Event) → (new_of g).answer ≡ Ok tt → AllTyped xs → (q : ℕ) (p : Poll v g q) →
         OrdersRead (after_all v (new_of g).meter xs) p
 
   -- a new meter after this sample
@@ -120,15 +119,15 @@ module _ (v : View) where
   -- same order, and from an L 2,258,632,705 mV where they name different ones
   pub record VoltsRead : Type 0 where
     pub same :
-        (g : Given) → (new_of g).answer ≡ Accepted → (p : Poll v g (quantity voltage L1)) →
+        (g : Given) → (new_of g).answer ≡ Ok tt → (p : Poll v g (quantity voltage L1)) →
         read_by (sampled g) p g.order ≡ Reading (read.Voltage 100000)
     pub other :
-        (g : Given) → (new_of g).answer ≡ Accepted → (p : Poll v g (quantity voltage L1)) (o : Order) → (o ≡ g.order → ⊥) →
+        (g : Given) → (new_of g).answer ≡ Ok tt → (p : Poll v g (quantity voltage L1)) (o : Order) → (o ≡ g.order → ⊥) →
         width (sampled g) p ≡ 2 → read_by (sampled g) p o ≡ Reading (read.Voltage 2258632705)
 
 -- STATEMENT: in paper 01's own directory there is such a read for every accepted new meter, and an order that is not its own
 pub record VoltsPolled : Type 0 where
-  pub long : (g : Given) → (new_of g).answer ≡ Accepted → (p : Poll own g (quantity voltage L1)) × (width own (sampled own g) p ≡ 2)
+  pub long : (g : Given) → (new_of g).answer ≡ Ok tt → (p : Poll own g (quantity voltage L1)) × (width own (sampled own g) p ≡ 2)
   pub another : (g : Given) → (o : Order) × (o ≡ g.order → ⊥)
 
 -- ---- examples

@@ -1,6 +1,6 @@
 -- Paper 01, "How tight the contracts are": why the wrong meters and collectors that it names are shut out. That a meter which
 -- refuses or stays silent throughout is shut out, is `EveryItemPolled.data_sent` for frames and `takes` here for samples.
-use Rattle.std.specs.Prelude.{◌≡◌, ℕ, ◌+◌, ◌*◌, ◌/◌, ◌≤◌, ◌<◌, true, List, [], ◌∷◌, pos, get_or}
+use Rattle.std.specs.Prelude.{◌≡◌, ℕ, ◌+◌, ◌*◌, ◌/◌, ◌≤◌, ◌<◌, true, List, [], ◌∷◌, pos, get_or, Ok}
 use Rattle.ratio.specs.declared.Ratios.{Ratios}
 use Rattle.ratio.specs.Ratios.{t_of}
 use Rattle.ratio.specs.Steps.{step_of}
@@ -9,7 +9,6 @@ use Rattle.directory.specs.Quantity.{quantity, energy_count, wrap, pos_ea}
 use Rattle.directory.specs.Views.{View}
 use Rattle.reading.specs.declared.Answer.{Answer}
 use Rattle.reading.specs.Told.{told}
-use Rattle.meter.specs.declared.Answer.TheVariants.{Accepted}
 use Rattle.meter.specs.declared.given.Given.{Given}
 use Rattle.meter.specs.declared.samples.Sample.{Sample}
 use Rattle.meter.specs.Samples.{sample_ok, sample_of}
@@ -59,7 +58,7 @@ module _ (v : View) where
   -- sample within limits
   pub record ShutOut : Type 0 where
     pub kept :
-        (g : Given) → (new_of g).answer ≡ Accepted →
+        (g : Given) → (new_of g).answer ≡ Ok tt →
         (e : ℕ) → e < 4 → (register : Poll v g (quantity energy_count e)) (wrapped : Poll v g (quantity wrap e)) →
         Keeps g e (ours g e register wrapped)
     pub same_each_time : (figure : List Event → ℕ) → ((xs : List Event) → figure xs ≡ figure []) → KeepsBare figure → ⊥
@@ -73,5 +72,5 @@ module _ (v : View) where
         (t exact count wrap : ℕ) → count ≤ top_count → Bounds exact (step_of t) (energy_of t (wrap * 100000000 + count)).0 →
         (count ≡ (register_of t (record { 0 = exact / 360000 })).0) × (wrap ≡ wrap_of t (record { 0 = exact / 360000 }))
     pub takes :
-        (g : Given) (s : Sample) → (new_of g).answer ≡ Accepted → sample_ok (t_of g.ratios) s ≡ true →
-        (after_of (new_of g).meter s).answer ≡ Accepted
+        (g : Given) (s : Sample) → (new_of g).answer ≡ Ok tt → sample_ok (t_of g.ratios) s ≡ true →
+        (after_of (new_of g).meter s).answer ≡ Ok tt

@@ -1,6 +1,6 @@
 -- Paper 02, request 3: what a tenant can do and learn at the second address. It changes nothing, and it learns what the items for it show
 -- and no more: two meters that are alike in these answer it alike, whatever else they hold. Request 5: alike in order too.
-use Rattle.std.specs.Prelude.{◌≡◌, ◌↔◌, ◌⊎◌, ℕ, ◌+◌, ◌*◌, ◌≤◌, ◌<◌, true, false, cond, List, [], ◌∷◌, ◌++◌, length, get_or, replicate}
+use Rattle.std.specs.Prelude.{◌≡◌, ◌↔◌, ◌⊎◌, ℕ, ◌+◌, ◌*◌, ◌≤◌, ◌<◌, true, false, cond, List, [], ◌∷◌, ◌++◌, length, get_or, replicate, Ok, Some}
 use Rattle.crc.specs.Crc.{sealed, intact}
 use Rattle.words.specs.declared.Order.TheVariants.{UpperFirst}
 use Rattle.words.specs.Words.{exchanged}
@@ -17,7 +17,6 @@ use Rattle.modbus.specs.Replies.{error_bytes}
 use Rattle.reading.specs.declared.Quantity.TheVariants as read
 use Rattle.reading.specs.declared.Answer.{Answer}
 use Rattle.reading.specs.declared.Answer.TheVariants.{Reading}
-use Rattle.meter.specs.declared.Answer.TheVariants.{Accepted}
 use Rattle.meter.specs.declared.energies.Energy.{Energy}
 use Rattle.meter.specs.declared.energies.Energies.{Energies}
 use Rattle.meter.specs.declared.given.Given.{Given}
@@ -28,7 +27,6 @@ use Rattle.meter.specs.Energies.{no_counters}
 use Rattle.meter.specs.Meters.{meter_ok, new_of, energy_at}
 use Rattle.registers.specs.Shown.{shown_of}
 use Rattle.registers.specs.Typed.{Typed}
-use Rattle.board.specs.declared.Reply.TheVariants.{Sent}
 use Rattle.board.specs.Reads.{read_reply}
 use Rattle.board.specs.Board.{Outcome, silent_of, sent_of, to_second, board_in}
 use Rattle.demands.specs.Histories.{Event, after_all}
@@ -125,7 +123,7 @@ module _ (v : View) where
       pub reads :
           FromTenant → Sound frame → function_of frame ≡ 0x03 →
           answered ≡ sent_of (read_reply (tenant_of v) m.given.order (shown_of m) frame) m b
-      pub address : FromTenant → (n : ℕ) → answered.handled.reply ≡ Sent n → address_of (reply_to v m frame b) ≡ m.given.second
+      pub address : FromTenant → (n : ℕ) → answered.handled.reply ≡ Ok (Some n) → address_of (reply_to v m frame b) ≡ m.given.second
 
   -- STATEMENT: there are such frames, of every function and not damaged: four bytes
   pub record TenantAsks : Type 0 where
@@ -160,7 +158,7 @@ module _ (v : View) where
   pub record AnswersAlike : Type 0 where
     pub alike : (m n : Meter) → meter_ok m ≡ true → meter_ok n ≡ true → Alike m n → SameToTenant m n
     pub always :
-        (g h : Given) (xs ys : List Event) → (new_of g).answer ≡ Accepted → (new_of h).answer ≡ Accepted →
+        (g h : Given) (xs ys : List Event) → (new_of g).answer ≡ Ok tt → (new_of h).answer ≡ Ok tt →
         Alike (after_all v (new_of g).meter xs) (after_all v (new_of h).meter ys) →
         SameToTenant (after_all v (new_of g).meter xs) (after_all v (new_of h).meter ys)
     pub frame :

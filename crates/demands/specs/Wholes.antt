@@ -1,11 +1,10 @@
 -- Paper 02, request 4, board and collector together: a meter's whole reply read by one call, over histories and through the bytes. What is
 -- read of an item is in its cells, and demand 3 holds of what the cells of an energy join to.
-use Rattle.std.specs.Prelude.{◌≡◌, ◌⊎◌, ℕ, ◌≤◌, ◌<◌, List, [], ◌∷◌, length, get_or}
+use Rattle.std.specs.Prelude.{◌≡◌, ◌⊎◌, ℕ, ◌≤◌, ◌<◌, List, [], ◌∷◌, length, get_or, Ok}
 use Rattle.refusal.specs.Numbers.{refused_by}
 use Rattle.ratio.specs.Ratios.{t_of}
 use Rattle.ratio.specs.Steps.{step_of}
 use Rattle.counts.specs.declared.WattHours.{WattHours}
-use Rattle.counts.specs.declared.Joined.TheVariants as joined
 use Rattle.counts.specs.Counting.{join_of, join_halves_of}
 use Rattle.directory.specs.Quantity.{quantity, energy_count, wrap, low, high}
 use Rattle.directory.specs.Views.{View}
@@ -14,7 +13,6 @@ use Rattle.reading.specs.Cells.{cell_of}
 use Rattle.board.specs.Board.{to_second, view_for}
 use Rattle.collector.specs.When.{item_at}
 use Rattle.collector.specs.Whole.{Rows, whole_in, WholeGives}
-use Rattle.meter.specs.declared.Answer.TheVariants.{Accepted}
 use Rattle.meter.specs.declared.given.Given.{Given}
 use Rattle.meter.specs.declared.Meter.{Meter}
 use Rattle.meter.specs.Meters.{new_of}
@@ -66,10 +64,10 @@ module _ (v : View) where
   -- for every reply
   pub record WholeAlways : Type 0 where
     pub reads :
-        (g : Given) (xs : List Event) → (new_of g).answer ≡ Accepted → AllTyped xs → (q : ℕ) (p : Poll v g q) (rows : TwoRows) →
+        (g : Given) (xs : List Event) → (new_of g).answer ≡ Ok tt → AllTyped xs → (q : ℕ) (p : Poll v g q) (rows : TwoRows) →
         Room (after_all v (new_of g).meter xs) p rows → AllCells (after_all v (new_of g).meter xs) p rows
     pub short :
-        (g : Given) (xs : List Event) → (new_of g).answer ≡ Accepted → AllTyped xs → (q : ℕ) (p : Poll v g q) (rows : TwoRows) →
+        (g : Given) (xs : List Event) → (new_of g).answer ≡ Ok tt → AllTyped xs → (q : ℕ) (p : Poll v g q) (rows : TwoRows) →
         NoRoom (after_all v (new_of g).meter xs) p rows → GivesWhole (after_all v (new_of g).meter xs) p rows (refused_by 15)
     pub enough :
         (m : Meter) (g : Given) (q : ℕ) (p : Poll v g q) (rows : TwoRows) → 125 ≤ length rows.values → 125 ≤ length rows.kinds →
@@ -83,7 +81,7 @@ module _ (v : View) where
     pub register_kind : get_or register.kinds i 0 ≡ energy_count
     pub wrap_kind : get_or wrapped.kinds j 0 ≡ wrap
     pub joins :
-        join_of h.given.ratios (record { 0 = get_or register.values i 0 }) (get_or wrapped.values j 0) ≡ joined.Energy whole
+        join_of h.given.ratios (record { 0 = get_or register.values i 0 }) (get_or wrapped.values j 0) ≡ Ok whole
     pub bounds : Bounds (exact_at v e h) (step_of (t_of h.given.ratios)) whole.0
 
   -- the cells of Low and High are of these kinds, they join, and what they come to is within the bounds of 1 Wh
@@ -91,7 +89,7 @@ module _ (v : View) where
     pub whole : WattHours
     pub low_kind : get_or lower.kinds i 0 ≡ low
     pub high_kind : get_or upper.kinds j 0 ≡ high
-    pub joins : join_halves_of (get_or lower.values i 0) (get_or upper.values j 0) ≡ joined.Energy whole
+    pub joins : join_halves_of (get_or lower.values i 0) (get_or upper.values j 0) ≡ Ok whole
     pub bounds : Bounds (exact_at v e h) 1 whole.0
 
   -- register and wrap, or Low and High, of an energy are so read by one call each, two meters being asked
