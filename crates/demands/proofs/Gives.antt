@@ -20,9 +20,7 @@ use Rattle.meter.specs.declared.Meter.{Meter}
 use Rattle.meter.specs.Meters.{meter_ok}
 use Rattle.registers.specs.Shown.{shown_of}
 use Rattle.board.specs.Reads.{items_sent, data_reply, read_bytes, read_reply}
-use Rattle.store.specs.declared.Verdict.{Verdict}
-use Rattle.store.specs.declared.Verdict.TheVariants.{Good, Wrong}
-use Rattle.store.specs.Writes.{stored_of, written_of}
+use Rattle.store.specs.Writes.{stored_of, fault_of, left_by, written_of}
 use Rattle.board.specs.Board.{refused_of, silent_of, sent_of, sent_or_silent, write_reply, obeyed_in, to_second, board_in}
 use Rattle.demands.specs.Frames.{unheard, seen_by, writes, Heeds, Answers}
 use Rattle.board.proofs.Cases.{board_1, board_2, board_silent, board_obeys, obeys_other, obeys_read, obeys_write}
@@ -34,8 +32,8 @@ module _ (v : View) where
     other : is_read frame ≡ false → writes m frame ≡ false → bytes ≡ error_reply frame Function → n ≡ m → Gives m frame bytes n
     misread : (code : ErrorCode) → is_read frame ≡ true → read_in (seen_by v m frame) frame ≡ Err code → bytes ≡ error_reply frame code → n ≡ m → Gives m frame bytes n
     shows : (first count : ℕ) → is_read frame ≡ true → read_in (seen_by v m frame) frame ≡ Ok (span first count) → bytes ≡ data_reply frame (items_sent m.given.order (shown_of m) (run_items (seen_by v m frame).seen first count)) → n ≡ m → Gives m frame bytes n
-    miswritten : (code : ErrorCode) → writes m frame ≡ true → (written_of m frame).verdict ≡ Wrong code → bytes ≡ error_reply frame code → n ≡ m → Gives m frame bytes n
-    stores : writes m frame ≡ true → (written_of m frame).verdict ≡ Good → bytes ≡ echo_reply frame → n ≡ stored_of m frame → Gives m frame bytes n
+    miswritten : (code : ErrorCode) → writes m frame ≡ true → fault_of (written_of m frame) ≡ Some code → bytes ≡ error_reply frame code → n ≡ m → Gives m frame bytes n
+    stores : writes m frame ≡ true → fault_of (written_of m frame) ≡ None → bytes ≡ echo_reply frame → n ≡ stored_of m frame → Gives m frame bytes n
 
   -- the same with what the definition makes of it
   record Given (m : Meter) (frame b : List ℕ) : Type 0 where
@@ -53,18 +51,18 @@ module _ (v : View) where
         let same : read_reply (seen_by v m frame) m.given.order (shown_of m) frame ≡ data_reply frame (items_sent m.given.order (shown_of m) (run_items (seen_by v m frame).seen first count)) = ap (read_bytes (seen_by v m frame) m.given.order (shown_of m) frame) e in
         record { bytes = read_reply (seen_by v m frame) m.given.order (shown_of m) frame; next = m; gives = shows first count r e same refl; obeyed = obeys_read (seen_by v m frame) (not (to_second m.given frame)) m frame b r }
 
-    given_write : writes m frame ≡ true → (said : Verdict) → (written_of m frame).verdict ≡ said → Given m frame b
-    given_write w (Wrong code) e =
+    given_write : writes m frame ≡ true → (said : Option ErrorCode) → fault_of (written_of m frame) ≡ said → Given m frame b
+    given_write w (Some code) e =
         record {
-          bytes = write_reply frame (written_of m frame).verdict;
-          next = (written_of m frame).meter;
+          bytes = write_reply frame (fault_of (written_of m frame));
+          next = left_by m (written_of m frame);
           gives = miswritten code w e (ap (write_reply frame) e) ((write_when m frame).kept code e);
           obeyed = obeys_write (seen_by v m frame) (not (to_second m.given frame)) m frame b w;
         }
-    given_write w Good e =
+    given_write w None e =
         record {
-          bytes = write_reply frame (written_of m frame).verdict;
-          next = (written_of m frame).meter;
+          bytes = write_reply frame (fault_of (written_of m frame));
+          next = left_by m (written_of m frame);
           gives = stores w e (ap (write_reply frame) e) ((write_when m frame).stored e);
           obeyed = obeys_write (seen_by v m frame) (not (to_second m.given frame)) m frame b w;
         }
@@ -74,7 +72,7 @@ module _ (v : View) where
       where
         by_read : (r w : Bool) → is_read frame ≡ r → writes m frame ≡ w → Given m frame b
         by_read true w r e = given_read r (read_in (seen_by v m frame) frame) refl
-        by_read false true r e = given_write e (written_of m frame).verdict refl
+        by_read false true r e = given_write e (fault_of (written_of m frame)) refl
         by_read false false r e = record { bytes = error_reply frame Function; next = m; gives = other r e refl refl; obeyed = obeys_other (seen_by v m frame) (not (to_second m.given frame)) m frame b r e }
 
   -- every outcome

@@ -29,7 +29,6 @@ use Rattle.board.specs.Board.{Outcome, silent_of, sent_of, sent_or_silent, obeye
 use Rattle.demands.specs.Frames.{seen_by, writes, Heeds, Answers, ReadErrs, WriteErrs}
 use Rattle.board.proofs.Lengths.{echo_long, data_long}
 use Rattle.board.proofs.Cases.{board_obeys, obeys_other, obeys_read, obeys_write}
-use Rattle.store.specs.declared.Verdict.TheVariants.{Wrong}
 use Rattle.store.proofs.Verdicts.{write_when}
 use Rattle.demands.proofs.Seen.{seen_passes}
 use Rattle.demands.proofs.Gives.{Gives}
@@ -136,6 +135,6 @@ module _ (v : View) (good : T (passes v)) where
   faults m frame bytes n code (misread c r s e k) h = bad_read (r, s ∙ ap Err (one_code frame c code (sym e ∙ h)))
   faults m frame bytes n code (shows first count r s e k) h =
       not_data frame (items_sent m.given.order (shown_of m) (run_items (seen_by v m frame).seen first count)) code (sym e ∙ h)
-  faults m frame bytes n code (miswritten c w j e k) h = bad_write (w, j ∙ ap Wrong (one_code frame c code (sym e ∙ h)))
+  faults m frame bytes n code (miswritten c w j e k) h = bad_write (w, j ∙ ap Some (one_code frame c code (sym e ∙ h)))
   faults m frame bytes n code (stores w j e k) h =
       not_echo frame code (omega (arith, (shaped_length frame ((write_when m frame).legal.0 j).0).0)) (sym e ∙ h)

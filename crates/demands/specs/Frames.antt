@@ -18,8 +18,7 @@ use Rattle.meter.specs.Groups.{code_of}
 use Rattle.meter.specs.Meters.{meter_ok}
 use Rattle.board.specs.Reads.{items_sent, data_reply}
 use Rattle.registers.specs.Shown.{shown_of}
-use Rattle.store.specs.declared.Verdict.TheVariants.{Good, Wrong}
-use Rattle.store.specs.Writes.{to_standard, replaced_in, stored_of, written_of}
+use Rattle.store.specs.Writes.{to_standard, replaced_in, stored_of, fault_of, written_of}
 use Rattle.board.specs.Board.{Outcome, reply_told, silent_of, sent_of, to_second, address_for, view_for, board_in}
 
 -- 2. silence: fewer than 4 or more than 256 bytes; wrong CRC; address neither 0 nor the one that the frame is judged by; function 0x80
@@ -48,7 +47,7 @@ pub record Answers (m : Meter) (frame buffer : List ℕ) : Type 0 where
 
 -- a write that an error code is due to
 abbrev pub WriteErrs : ErrorCode → Meter → List ℕ → Type 0
-WriteErrs code m frame = (writes m frame ≡ true) × ((written_of m frame).verdict ≡ Wrong code)
+WriteErrs code m frame = (writes m frame ≡ true) × (fault_of (written_of m frame) ≡ Some code)
 
 -- 2. silence; to address 0 it is kept always
 abbrev pub Quiet : Meter → List ℕ → Type 0
@@ -56,7 +55,7 @@ Quiet m frame = (unheard m frame ≡ true) ⊎ (address_of frame ≡ 0)
 
 -- a legal write
 abbrev pub Stores : Meter → List ℕ → Type 0
-Stores m frame = (writes m frame ≡ true) × ((written_of m frame).verdict ≡ Good)
+Stores m frame = (writes m frame ≡ true) × (fault_of (written_of m frame) ≡ None)
 
 -- a read that an error code is due to
 abbrev pub ReadErrs : View → ErrorCode → List ℕ → Type 0
