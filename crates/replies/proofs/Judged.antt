@@ -20,7 +20,7 @@ use Rattle.modbus.specs.Frame.{word_number}
 use Rattle.modbus.specs.Read.{read_in}
 use Rattle.modbus.proofs.Frames.{neither}
 use Rattle.replies.specs.declared.Unread.{Unread}
-use Rattle.replies.specs.declared.Unread.TheVariants.{Error, Refused}
+use Rattle.replies.specs.declared.Unread.TheVariants.{Refused}
 use Rattle.replies.specs.Judged.{length_wrong, foreign, is_read_error, third_of, error_of, misfit, reply_of, heard, on_items, judged_in}
 
 module _ (request reply : List ℕ) {A : Type 0} (asked : A) where

@@ -12,8 +12,15 @@ use Rattle.directory.specs.declared.Span.{Span}
 use Rattle.directory.specs.Views.{View}
 use Rattle.modbus.specs.Frame.{address_of, function_of, is_read, word_number, silence}
 use Rattle.modbus.specs.Read.{read_in}
+use Rattle.reading.specs.declared.Answer.{Answer}
+use Rattle.reading.specs.declared.Answer.TheVariants as answer
 use Rattle.replies.specs.declared.Unread.{Unread}
 use Rattle.replies.specs.declared.Unread.TheVariants.{Error, Refused}
+
+-- what is answered where nothing is read: the error code or the refusal, handed on
+abbrev pub unread : Unread → Answer
+unread (Error code) = answer.Error code
+unread (Refused reason) = answer.Refused reason
 
 -- a read that a meter of that own address, 1 to 255, does not keep silent on
 unfoldable pub heard : List ℕ → Bool

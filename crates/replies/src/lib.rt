@@ -7,6 +7,7 @@ ghost use Rattle.replies.specs.Judged.{heard, error_of, reply_of, judged_in};
 
 use directory::{Reach, Span};
 use ratio::Ratios;
+use reading::Answer;
 use refusal::{ErrorCode, Refusal};
 use std::error::Error;
 use std::fmt;
@@ -41,6 +42,19 @@ impl From<Refusal> for Unread {
 
     fn from(reason: Refusal) -> Unread {
         Unread::Refused(reason)
+    }
+}
+
+impl From<Unread> for Answer {
+    ghost use Rattle.replies.specs.Judged.{unread};
+
+    ghost from_gives = { λ why answer. answer ≡ unread why };
+
+    fn from(why: Unread) -> Answer {
+        match why {
+            Unread::Error(code) => Answer::Error(code),
+            Unread::Refused(reason) => Answer::Refused(reason),
+        }
     }
 }
 

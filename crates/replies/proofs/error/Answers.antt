@@ -1,8 +1,7 @@
 -- The tests are the definition's own.
-use lib.ListN.{length, get_or}
+use lib.ListN.{length}
 use Rattle.std.proofs.Common.{arith, ap, sym, ◌∙◌}
 use borrow.Author.Tests.{eq-eqb, ne_eqb}
-use Rattle.refusal.specs.Numbers.{code_named}
 use Rattle.replies.specs.Judged.{on_code, error_of}
 use Rattle.replies.proofs.error.Goals as goal
 
