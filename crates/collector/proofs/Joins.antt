@@ -6,6 +6,8 @@ use Prim.Native.Nat.{ℕ, ◌<◌}
 use native.Mathlib.Omega.{arith}
 use lib.Dec.{ltb}
 use borrow.Author.Tests.{ltb-true, lt-ltb}
+use Rattle.std.specs.Prelude.{Result, Ok, Err}
+use Rattle.refusal.specs.declared.Refusal.{Refusal}
 use Rattle.refusal.specs.declared.Refusal.TheVariants.{RatioOutOfLimits, JoinPastTop}
 use Rattle.refusal.specs.Numbers.{refused_by}
 use Rattle.refusal.proofs.Distinct.{case_in, number_in}
@@ -13,14 +15,12 @@ use Rattle.ratio.specs.declared.Ratios.{Ratios}
 use Rattle.ratio.specs.Ratios.{ratios_ok}
 use Rattle.counts.specs.declared.Count.{Count}
 use Rattle.counts.specs.declared.WattHours.{WattHours}
-use Rattle.counts.specs.declared.Joined.{Joined}
-use Rattle.counts.specs.declared.Joined.TheVariants.{Energy, Refused}
 use Rattle.counts.specs.Counting.{top_count, top_low, top_high, join_of, join_halves_of, join_told}
 use Rattle.collector.specs.When.{JoinsWhen}
 
 -- the tests: ratios within limits, count over its top
-abbrev joins : Bool → Bool → WattHours → Joined
-joins ok over e = cond (not ok) (Refused RatioOutOfLimits) (cond over (Refused JoinPastTop) (Energy e))
+abbrev joins : Bool → Bool → WattHours → Result WattHours Refusal
+joins ok over e = cond (not ok) (Err RatioOutOfLimits) (cond over (Err JoinPastTop) (Ok e))
 
 three : (ok over : Bool) (e : WattHours) → (join_told (joins ok over e) ≡ refused_by 3) ↔ (ok ≡ false)
 three true false e = (λ h. absurd (omega (arith, ap case_in h)), λ h. absurd (false≢true (sym h)))
@@ -38,7 +38,7 @@ only true true e n h = inr (sym (ap number_in h))
 only false over e n h = inl (sym (ap number_in h))
 
 -- the tests: Low over its top, High over its top
-halves : (low high : Bool) (e : WattHours) (n : ℕ) → (join_told (cond (low || high) (Refused JoinPastTop) (Energy e)) ≡ refused_by n) ↔ ((n ≡ 14) × ((low ≡ true) ⊎ (high ≡ true)))
+halves : (low high : Bool) (e : WattHours) (n : ℕ) → (join_told (cond (low || high) (Err JoinPastTop) (Ok e)) ≡ refused_by n) ↔ ((n ≡ 14) × ((low ≡ true) ⊎ (high ≡ true)))
 halves false false e n = (λ h. absurd (omega (arith, ap case_in h)), λ h. absurd (neither h.1))
   where
     neither : ((false ≡ true) ⊎ (false ≡ true)) → ⊥

@@ -9,6 +9,7 @@ use lib.Dec.{T, ltb}
 use lib.ListN.{length, get_or}
 use lib.Seq.{sets, length-sets}
 use borrow.Author.Tests.{ltb-true, ltb-false, lt-ltb, le-ltb}
+use Rattle.std.specs.Prelude.{Result, Ok, Err}
 use Rattle.refusal.specs.declared.Refusal.{Refusal}
 use Rattle.refusal.specs.declared.Refusal.TheVariants.{RatioOutOfLimits, NotARead, ReplyLength, ReplyCrc, ReplyForeign, ReplyMisfit, ValueImpossible, RowShort}
 use Rattle.refusal.specs.declared.ErrorCode.{ErrorCode}
@@ -19,6 +20,7 @@ use Rattle.words.proofs.Laws.{value_fits}
 use Rattle.ratio.specs.declared.Ratios.{Ratios}
 use Rattle.ratio.specs.Ratios.{t_of}
 use Rattle.directory.specs.declared.Item.{Item}
+use Rattle.directory.specs.Run.{span}
 use Rattle.directory.specs.Views.{View, passes}
 use Rattle.directory.proofs.Order.{ruled_narrow}
 use Rattle.directory.proofs.Views.{passes_ruled}
@@ -31,8 +33,8 @@ use Rattle.reading.specs.Told.{kind_of}
 use Rattle.reading.specs.Readings.{thirteen, reading_of}
 use Rattle.reading.specs.Cells.{cell_of, read_back}
 use Rattle.reading.proofs.Cells.{Back, reading_back}
-use Rattle.collector.specs.declared.whole.Whole.{Whole}
-use Rattle.collector.specs.declared.whole.Whole.TheVariants.{Items, Error, Refused}
+use Rattle.replies.specs.declared.Unread.{Unread}
+use Rattle.replies.specs.declared.Unread.TheVariants.{Error, Refused}
 use Rattle.collector.specs.declared.Nameplate.{Nameplate}
 use Rattle.collector.specs.Collector.{collector_in}
 use Rattle.collector.specs.When.{Fits, asked_by, item_at, value_in, GivesCode, ReplyGives}
@@ -40,20 +42,20 @@ use Rattle.collector.specs.Whole.{whole_told, in_turn, is_thirteen, any_thirteen
 use Rattle.collector.proofs.When as when
 use Rattle.collector.proofs.When.{Row, row_3, row_7, row_8, row_9, row_10, row_11, three, seven, eight, nine, ten, eleven, row_number, refused, coded, held, Judging, judging, impossible, possible, replies_when}
 use Rattle.collector.proofs.Turns.{turns_length, none_at, any_at, any_where, Read, read_length, read_all, read_at, turns_read, cell_in, cell_beyond}
-use Rattle.collector.proofs.Rows.{short, short_kept, refused_kept, all_filled, whole_coded, whole_refused, whole_data}
+use Rattle.collector.proofs.Rows.{short, short_kept, refused_kept, all_filled, whole_unread, whole_data}
 
 -- ---- the numbers of an answer name it
 
-pub one_whole_each : (x y : Whole) → whole_told x ≡ whole_told y → x ≡ y
-one_whole_each (Items n) (Items k) h = ap Items (ap number_in h)
-one_whole_each (Items n) (Error code) h = absurd (let z = ap case_in h in omega (arith, z))
-one_whole_each (Items n) (Refused reason) h = absurd (let z = ap case_in h in omega (arith, z))
-one_whole_each (Error code) (Items n) h = absurd (let z = ap case_in h in omega (arith, z))
-one_whole_each (Error code) (Error other) h = ap Error (one_reason_each.errors code other (ap number_in h))
-one_whole_each (Error code) (Refused reason) h = absurd (let z = ap case_in h in omega (arith, z))
-one_whole_each (Refused reason) (Items n) h = absurd (let z = ap case_in h in omega (arith, z))
-one_whole_each (Refused reason) (Error code) h = absurd (let z = ap case_in h in omega (arith, z))
-one_whole_each (Refused reason) (Refused other) h = ap Refused (one_reason_each.refusals reason other (ap number_in h))
+pub one_whole_each : (x y : Result ℕ Unread) → whole_told x ≡ whole_told y → x ≡ y
+one_whole_each (Ok n) (Ok k) h = ap Ok (ap number_in h)
+one_whole_each (Ok n) (Err (Error code)) h = absurd (let z = ap case_in h in omega (arith, z))
+one_whole_each (Ok n) (Err (Refused reason)) h = absurd (let z = ap case_in h in omega (arith, z))
+one_whole_each (Err (Error code)) (Ok n) h = absurd (let z = ap case_in h in omega (arith, z))
+one_whole_each (Err (Error code)) (Err (Error other)) h = ap (λ (c : ErrorCode). Err (Error c)) (one_reason_each.errors code other (ap number_in h))
+one_whole_each (Err (Error code)) (Err (Refused reason)) h = absurd (let z = ap case_in h in omega (arith, z))
+one_whole_each (Err (Refused reason)) (Ok n) h = absurd (let z = ap case_in h in omega (arith, z))
+one_whole_each (Err (Refused reason)) (Err (Error code)) h = absurd (let z = ap case_in h in omega (arith, z))
+one_whole_each (Err (Refused reason)) (Err (Refused other)) h = ap (λ (c : Refusal). Err (Refused c)) (one_reason_each.refusals reason other (ap number_in h))
 
 -- ---- a reading or 13, as an item's value is possible or not
 
@@ -84,7 +86,7 @@ module _ (v : View) (good : T (passes v)) (request reply : List ℕ) (plate : Na
     answers = in_turn count ask
 
     to_data : given ≡ filled_by answers values kinds
-    to_data = whole_data v request reply plate values kinds (asked_by v f).first count (held v good request reply r f)
+    to_data = whole_data v request reply plate values kinds (span (asked_by v f).first count) (held v good request reply r f)
 
     long : length answers ≡ count
     long = turns_length count ask
@@ -111,15 +113,15 @@ module _ (v : View) (good : T (passes v)) (request reply : List ℕ) (plate : Na
     row_13 : SomeImpossible v request reply plate values kinds → Refuses ValueImpossible
     row_15 : Short v request reply plate values kinds → Refuses RowShort
 
-  refused_whole : {reason : Refusal} → Refuses reason → given ≡ kept_by (Refused reason) values kinds
-  refused_whole (by_row w) = whole_refused v request reply plate values kinds _ (refused v good request reply r w)
+  refused_whole : {reason : Refusal} → Refuses reason → given ≡ kept_by (Err (Refused reason)) values kinds
+  refused_whole (by_row w) = whole_unread v request reply plate values kinds _ (refused v good request reply r w)
   refused_whole (row_13 h) =
       let f = h.roomy.fits in
       to_data f ∙ refused_kept (answers f) values kinds (as_roomy f h.roomy.values_room h.roomy.kinds_room) (any_at (count f) ask h.index h.below (thirteen_at f h.index h.below ∙ h.value))
   refused_whole (row_15 h) = to_data h.fits ∙ short_kept (answers h.fits) values kinds (as_short h.fits h.short)
 
-  coded_whole : (code : ErrorCode) → GivesCode v request reply r (error_number code) → given ≡ kept_by (Error code) values kinds
-  coded_whole code e = whole_coded v request reply plate values kinds code (coded v good request reply r code e)
+  coded_whole : (code : ErrorCode) → GivesCode v request reply r (error_number code) → given ≡ kept_by (Err (Error code)) values kinds
+  coded_whole code e = whole_unread v request reply plate values kinds _ (coded v good request reply r code e)
 
   -- all are read: the readings, and the rows with them
   record Readings (n : ℕ) : Type 0 where
@@ -129,7 +131,7 @@ module _ (v : View) (good : T (passes v)) (request reply : List ℕ) (plate : Na
     pub kinds_room : n ≤ length kinds
     pub qs : List Quantity
     pub read : Read n ask qs
-    pub rows : given ≡ record { answer = Items n; values = sets values 0 (map cell_of qs); kinds = sets kinds 0 (map kind_of qs) }
+    pub rows : given ≡ record { answer = Ok n; values = sets values 0 (map cell_of qs); kinds = sets kinds 0 (map kind_of qs) }
 
   -- an item that is not refused with 13 is read
   unrefused : (f : Fits v request reply r) (i : ℕ) → i < count f → is_thirteen (ask i) ≡ false → (q : Quantity) × (ask i ≡ answer.Reading q)
@@ -157,7 +159,7 @@ module _ (v : View) (good : T (passes v)) (request reply : List ℕ) (plate : Na
       all = turns_read (count f) ask (unrefused f) unfound
 
       filled : ℕ → List Quantity → Rows
-      filled n qs = record { answer = Items n; values = sets values 0 (map cell_of qs); kinds = sets kinds 0 (map kind_of qs) }
+      filled n qs = record { answer = Ok n; values = sets values 0 (map cell_of qs); kinds = sets kinds 0 (map kind_of qs) }
 
   all_read : (n : ℕ) → AllRead v request reply plate values kinds n → Readings n
   all_read n a = subst Readings a.count (at_count a.roomy.fits a.roomy.values_room a.roomy.kinds_room (λ i b. a.possible i (omega (arith, b, a.count))))

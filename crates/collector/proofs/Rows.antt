@@ -7,9 +7,8 @@ use native.Mathlib.Omega.{arith}
 use lib.Dec.{T, ltb}
 use lib.ListN.{length, get_or}
 use lib.Seq.{sets}
-use Rattle.refusal.specs.declared.Refusal.{Refusal}
+use Rattle.std.specs.Prelude.{Result, Ok, Err}
 use Rattle.refusal.specs.declared.Refusal.TheVariants.{ValueImpossible, RowShort}
-use Rattle.refusal.specs.declared.ErrorCode.{ErrorCode}
 use Rattle.ratio.specs.declared.Ratios.{Ratios}
 use Rattle.ratio.specs.Ratios.{t_of}
 use Rattle.directory.specs.declared.Item.{Item}
@@ -20,16 +19,15 @@ use Rattle.directory.specs.Views.{View}
 use Rattle.reading.specs.declared.Answer.{Answer}
 use Rattle.reading.specs.Told.{kind_of}
 use Rattle.reading.specs.Cells.{cell_of}
-use Rattle.replies.specs.declared.Judgement.{Judgement}
-use Rattle.replies.specs.declared.Judgement.TheVariants as judgement
-use Rattle.collector.specs.declared.whole.Whole.{Whole}
-use Rattle.collector.specs.declared.whole.Whole.TheVariants.{Items, Error, Refused}
+use Rattle.replies.specs.declared.Unread.{Unread}
+use Rattle.replies.specs.declared.Unread.TheVariants.{Refused}
 use Rattle.collector.specs.declared.Nameplate.{Nameplate}
 use Rattle.replies.specs.Judged.{judged_in}
 use Rattle.collector.specs.Collector.{item_of, on_data, collector_in}
 use Rattle.collector.specs.Whole.{in_turn, any_thirteen, readings_in, Rows, kept_by, filled_by, on_reply, whole_in, Filled}
 use Rattle.collector.proofs.Places.{narrow_at, run_length}
 use Rattle.collector.proofs.Turns.{turns_same}
+use Rattle.directory.specs.declared.Span.{Span}
 
 -- ---- the tests
 
@@ -38,27 +36,27 @@ module _ (answers : List Answer) (values kinds : List ℕ) where
   abbrev pub short : Bool
   short = ltb (length values) (length answers) || ltb (length kinds) (length answers)
 
-  pub short_kept : short ≡ true → filled_by answers values kinds ≡ kept_by (Refused RowShort) values kinds
+  pub short_kept : short ≡ true → filled_by answers values kinds ≡ kept_by (Err (Refused RowShort)) values kinds
   unfolding filled_by
   short_kept h = rw h refl
 
-  pub refused_kept : short ≡ false → any_thirteen answers ≡ true → filled_by answers values kinds ≡ kept_by (Refused ValueImpossible) values kinds
+  pub refused_kept : short ≡ false → any_thirteen answers ≡ true → filled_by answers values kinds ≡ kept_by (Err (Refused ValueImpossible)) values kinds
   unfolding filled_by
   refused_kept h a = rw (h, a) refl
 
   -- the rows with what was given
   abbrev pub full : Rows
-  full = record { answer = Items (length answers); values = sets values 0 (map cell_of (readings_in answers)); kinds = sets kinds 0 (map kind_of (readings_in answers)) }
+  full = record { answer = Ok (length answers); values = sets values 0 (map cell_of (readings_in answers)); kinds = sets kinds 0 (map kind_of (readings_in answers)) }
 
   pub all_filled : short ≡ false → any_thirteen answers ≡ false → filled_by answers values kinds ≡ full
   unfolding filled_by
   all_filled h a = rw (h, a) refl
 
 -- what equals the definition is allowed
-pub allowed : {defined : Rows} {x : Whole} {values kinds : List ℕ} → record { answer = x; values = values; kinds = kinds } ≡ defined → Filled defined x values kinds
+pub allowed : {defined : Rows} {x : Result ℕ Unread} {values kinds : List ℕ} → record { answer = x; values = values; kinds = kinds } ≡ defined → Filled defined x values kinds
 allowed e = record { answers = ap (λ (o : Rows). o.answer) e; cells = ap (λ (o : Rows). o.values) e; numbers = ap (λ (o : Rows). o.kinds) e }
 
-pub allowed_by : {a b : Rows} {x : Whole} {values kinds : List ℕ} → a ≡ b → Filled a x values kinds → Filled b x values kinds
+pub allowed_by : {a b : Rows} {x : Result ℕ Unread} {values kinds : List ℕ} → a ≡ b → Filled a x values kinds → Filled b x values kinds
 allowed_by {x = x} {values = values} {kinds = kinds} e h = subst (λ (o : Rows). Filled o x values kinds) e h
 
 -- ---- the judgement
@@ -68,33 +66,30 @@ module _ (v : View) (request reply : List ℕ) (plate : Nameplate) (values kinds
   r = plate.ratios
 
   -- how it goes on from there
-  abbrev going : Judgement → Rows
-  going j = on_reply j (λ first count. filled_by (in_turn count (collector_in v request reply plate)) values kinds) values kinds
+  abbrev going : Result Span Unread → Rows
+  going j = on_reply j (λ count. filled_by (in_turn count (collector_in v request reply plate)) values kinds) values kinds
 
   pub to_rows : whole_in v request reply plate values kinds ≡ going (judged_in v request reply r)
   unfolding whole_in
   to_rows = refl
 
-  pub whole_coded : (code : ErrorCode) → judged_in v request reply r ≡ judgement.Error code → whole_in v request reply plate values kinds ≡ kept_by (Error code) values kinds
-  whole_coded code h = to_rows ∙ ap going h
+  pub whole_unread : (why : Unread) → judged_in v request reply r ≡ Err why → whole_in v request reply plate values kinds ≡ kept_by (Err why) values kinds
+  whole_unread why h = to_rows ∙ ap going h
 
-  pub whole_refused : (reason : Refusal) → judged_in v request reply r ≡ judgement.Refused reason → whole_in v request reply plate values kinds ≡ kept_by (Refused reason) values kinds
-  whole_refused reason h = to_rows ∙ ap going h
-
-  module _ (first count : ℕ) (h : judged_in v request reply r ≡ judgement.Items first count) where
-    pub whole_data : whole_in v request reply plate values kinds ≡ filled_by (in_turn count (collector_in v request reply plate)) values kinds
+  module _ (asked : Span) (h : judged_in v request reply r ≡ Ok asked) where
+    pub whole_data : whole_in v request reply plate values kinds ≡ filled_by (in_turn asked.count (collector_in v request reply plate)) values kinds
     whole_data = to_rows ∙ ap going h
 
     -- each call is then the item's
-    pub each_item : (index : ℕ) → collector_in v request reply plate index ≡ item_of plate.order (t_of r) (run_items v.seen first count) reply index
+    pub each_item : (index : ℕ) → collector_in v request reply plate index ≡ item_of plate.order (t_of r) (run_items v.seen asked.first asked.count) reply index
     unfolding collector_in
-    each_item index = ap (λ (j : Judgement). on_data v j (λ its. item_of plate.order (t_of r) its reply index)) h
+    each_item index = ap (λ (j : Result Span Unread). on_data v j (λ its. item_of plate.order (t_of r) its reply index)) h
 
-    pub whole_items : first + count ≤ length v.seen → whole_in v request reply plate values kinds ≡ filled_by (in_turn (length (run_items v.seen first count)) (item_of plate.order (t_of r) (run_items v.seen first count) reply)) values kinds
+    pub whole_items : asked.first + asked.count ≤ length v.seen → whole_in v request reply plate values kinds ≡ filled_by (in_turn (length (run_items v.seen asked.first asked.count)) (item_of plate.order (t_of r) (run_items v.seen asked.first asked.count) reply)) values kinds
     whole_items inside =
         whole_data
-        ∙ ap (λ (l : List Answer). filled_by l values kinds) (turns_same count (collector_in v request reply plate) (item_of plate.order (t_of r) (run_items v.seen first count) reply) (λ i b. each_item i))
-        ∙ ap (λ (n : ℕ). filled_by (in_turn n (item_of plate.order (t_of r) (run_items v.seen first count) reply)) values kinds) (sym (run_length v.seen first count inside))
+        ∙ ap (λ (l : List Answer). filled_by l values kinds) (turns_same asked.count (collector_in v request reply plate) (item_of plate.order (t_of r) (run_items v.seen asked.first asked.count) reply) (λ i b. each_item i))
+        ∙ ap (λ (n : ℕ). filled_by (in_turn n (item_of plate.order (t_of r) (run_items v.seen asked.first asked.count) reply)) values kinds) (sym (run_length v.seen asked.first asked.count inside))
 
 -- ---- an item sends a word at the least
 

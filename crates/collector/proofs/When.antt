@@ -8,6 +8,7 @@ use native.Mathlib.Omega.{arith}
 use lib.Dec.{T, ltb, eqb}
 use lib.ListN.{length, get_or}
 use borrow.Author.Tests.{ltb-true, ltb-false, eqb-true, eqb-false, eq-eqb, ne_eqb, not-false}
+use Rattle.std.specs.Prelude.{Result, Ok, Err}
 use Rattle.refusal.specs.declared.Refusal.{Refusal}
 use Rattle.refusal.specs.declared.Refusal.TheVariants.{RatioOutOfLimits, NotARead, ReplyLength, ReplyCrc, ReplyForeign, ReplyMisfit, IndexPastItems, ValueImpossible}
 use Rattle.refusal.specs.declared.ErrorCode.{ErrorCode}
@@ -22,9 +23,8 @@ use Rattle.ratio.specs.declared.Ratios.{Ratios}
 use Rattle.ratio.specs.Ratios.{ratios_ok, t_of}
 use Rattle.directory.specs.declared.Item.{Item}
 use Rattle.directory.specs.declared.Span.{Span}
-use Rattle.directory.specs.declared.Span.TheVariants as span
 use Rattle.directory.specs.Item.{none}
-use Rattle.directory.specs.Run.{run_items}
+use Rattle.directory.specs.Run.{run_items, span}
 use Rattle.directory.specs.Views.{View, passes}
 use Rattle.directory.proofs.Errors.{no_run}
 use Rattle.modbus.specs.Frame.{address_of}
@@ -38,8 +38,8 @@ use Rattle.reading.specs.declared.Answer.TheVariants.{Reading, Error, Refused}
 use Rattle.reading.specs.Told.{told}
 use Rattle.reading.specs.Readings.{thirteen, quantities_of, reading_of}
 use Rattle.reading.proofs.Cells.{quantity_in}
-use Rattle.replies.specs.declared.Judgement.{Judgement}
-use Rattle.replies.specs.declared.Judgement.TheVariants as judgement
+use Rattle.replies.specs.declared.Unread.{Unread}
+use Rattle.replies.specs.declared.Unread.TheVariants as unread
 use Rattle.collector.specs.declared.Nameplate.{Nameplate}
 use Rattle.replies.specs.Judged.{heard, length_wrong, is_read_error, foreign, third_of, code_of, error_of, misfit, reply_of, judged_in}
 use Rattle.collector.specs.Collector.{place_of, item_of, on_data, collector_in}
@@ -50,25 +50,25 @@ use Rattle.replies.proofs.Judged.{length_refused, crc_refused, foreign_refused, 
 
 -- ---- the error code of a reply
 
-error_refused : (reply : List ℕ) → error_misfit reply ≡ true → error_of reply ≡ judgement.Refused ReplyMisfit
+error_refused : (reply : List ℕ) → error_misfit reply ≡ true → error_of reply ≡ unread.Refused ReplyMisfit
 unfolding error_of
 error_refused reply h = by (eqb (length reply) 5) refl
   where
     n : ℕ
     n = third_of reply
 
-    none_of : (a b : Bool) → ltb n 1 ≡ a → ltb 3 n ≡ b → (a || b) ≡ true → code_of n ≡ judgement.Refused ReplyMisfit
+    none_of : (a b : Bool) → ltb n 1 ≡ a → ltb 3 n ≡ b → (a || b) ≡ true → code_of n ≡ unread.Refused ReplyMisfit
     none_of true b e f g = let z : n ≡ 0 = omega (arith, ltb-true n 1 e) in rw z refl
     none_of false true e f g =
         let over : 3 < n = ltb-true 3 n f in
         simp (ne_eqb n 1 (λ z. omega (arith, over, z)), ne_eqb n 2 (λ z. omega (arith, over, z)), ne_eqb n 3 (λ z. omega (arith, over, z)))
     none_of false false e f g = absurd (false≢true g)
 
-    by : (t : Bool) → eqb (length reply) 5 ≡ t → cond (not (eqb (length reply) 5)) (judgement.Refused ReplyMisfit) (code_of n) ≡ judgement.Refused ReplyMisfit
+    by : (t : Bool) → eqb (length reply) 5 ≡ t → cond (not (eqb (length reply) 5)) (unread.Refused ReplyMisfit) (code_of n) ≡ unread.Refused ReplyMisfit
     by false e = rw e refl
-    by true e = ap (λ (t : Bool). cond (not t) (judgement.Refused ReplyMisfit) (code_of n)) e ∙ none_of (ltb n 1) (ltb 3 n) refl refl (sym (ap (λ (t : Bool). not t || (ltb n 1 || ltb 3 n)) e) ∙ h)
+    by true e = ap (λ (t : Bool). cond (not t) (unread.Refused ReplyMisfit) (code_of n)) e ∙ none_of (ltb n 1) (ltb 3 n) refl refl (sym (ap (λ (t : Bool). not t || (ltb n 1 || ltb 3 n)) e) ∙ h)
 
-error_code : (reply : List ℕ) (code : ErrorCode) → length reply ≡ 5 → third_of reply ≡ error_number code → error_of reply ≡ judgement.Error code
+error_code : (reply : List ℕ) (code : ErrorCode) → length reply ≡ 5 → third_of reply ≡ error_number code → error_of reply ≡ unread.Error code
 unfolding error_of
 error_code reply Function five says = simp (eq-eqb (length reply) 5 five, says)
 error_code reply Address five says = simp (eq-eqb (length reply) 5 five, says)
@@ -106,7 +106,7 @@ module _ (v : View) (good : T (passes v)) where
   -- ---- request and reply: each row and rule leads to its judgement
 
   module _ (request reply : List ℕ) (r : Ratios) where
-    abbrev judged : Judgement
+    abbrev judged : Result Span Unread
     judged = judged_in v request reply r
 
     -- 3 and 7 to 11
@@ -146,42 +146,42 @@ module _ (v : View) (good : T (passes v)) where
     row_number (row_10 h) = inr (omega arith, omega arith)
     row_number (row_11 h) = inr (omega arith, omega arith)
 
-    to_reply : (a : Asked v request r) → judged ≡ reply_of request reply (judgement.Items a.asks.first a.asks.count)
+    to_reply : (a : Asked v request r) → judged ≡ reply_of request reply (span a.asks.first a.asks.count)
     unfolding judged_in
     to_reply a = rw (a.ratios, a.asks.hears, a.asks.items) refl
 
-    ratio_row : ratios_ok r ≡ false → judged ≡ judgement.Refused RatioOutOfLimits
+    ratio_row : ratios_ok r ≡ false → judged ≡ Err (unread.Refused RatioOutOfLimits)
     unfolding judged_in
     ratio_row h = rw h refl
 
-    request_row : ratios_ok r ≡ true → (Asks v request → ⊥) → judged ≡ judgement.Refused NotARead
+    request_row : ratios_ok r ≡ true → (Asks v request → ⊥) → judged ≡ Err (unread.Refused NotARead)
     unfolding judged_in
     request_row ok other = by (heard request) (read_in v request) refl refl
       where
-        by : (t : Bool) (s : Span) → heard request ≡ t → read_in v request ≡ s → judged ≡ judgement.Refused NotARead
+        by : (t : Bool) (s : Result Span ErrorCode) → heard request ≡ t → read_in v request ≡ s → judged ≡ Err (unread.Refused NotARead)
         by false s e f = rw (ok, e) refl
-        by true (span.Error code) e f = rw (ok, e, f) refl
-        by true (span.Items first count) e f = absurd (other (record { hears = e; first = first; count = count; items = f }))
+        by true (Err code) e f = rw (ok, e, f) refl
+        by true (Ok s) e f = absurd (other (record { hears = e; first = s.first; count = s.count; items = f }))
 
-    pub refused : {reason : Refusal} → Row reason → judged ≡ judgement.Refused reason
+    pub refused : {reason : Refusal} → Row reason → judged ≡ Err (unread.Refused reason)
     refused (row_3 h) = ratio_row h
     refused (row_7 h) = request_row h.0 h.1
     refused (row_8 h) = to_reply h.0 ∙ sym (length_refused _ _ _ h.1)
     refused (row_9 h) = to_reply h.0 ∙ sym (crc_refused _ _ _ h.1 h.2)
     refused (row_10 h) = to_reply h.0 ∙ sym (foreign_refused _ _ _ h.1 h.2 h.3)
     refused (row_11 (h, inl m)) =
-        to_reply h.asked ∙ sym (error_given _ _ _ h.long h.whole h.own m.0) ∙ error_refused reply m.1
+        to_reply h.asked ∙ sym (error_given _ _ _ h.long h.whole h.own m.0) ∙ ap Err (error_refused reply m.1)
     refused (row_11 (h, inr m)) = to_reply h.asked ∙ sym (misfit_refused _ _ _ h.long h.whole h.own m.0 m.1)
 
-    pub coded : (code : ErrorCode) → GivesCode v request reply r (error_number code) → judged ≡ judgement.Error code
+    pub coded : (code : ErrorCode) → GivesCode v request reply r (error_number code) → judged ≡ Err (unread.Error code)
     coded code h =
         let s = h.sound in
-        to_reply s.asked ∙ sym (error_given _ _ _ s.long s.whole s.own h.error) ∙ error_code reply code h.long h.says
+        to_reply s.asked ∙ sym (error_given _ _ _ s.long s.whole s.own h.error) ∙ ap Err (error_code reply code h.long h.says)
 
-    pub held : (f : Fits v request reply r) → judged ≡ judgement.Items (asked_by v f).first (asked_by v f).count
+    pub held : (f : Fits v request reply r) → judged ≡ Ok (span (asked_by v f).first (asked_by v f).count)
     held f =
         let h = f.sound in
-        to_reply h.asked ∙ sym (data_given request reply (judgement.Items h.asked.asks.first h.asked.asks.count) h.long h.whole h.own f.words f.fits)
+        to_reply h.asked ∙ sym (data_given request reply (span h.asked.asks.first h.asked.asks.count) h.long h.whole h.own f.words f.fits)
 
     -- ---- every request with its reply comes to one of them
 
@@ -235,11 +235,11 @@ module _ (v : View) (good : T (passes v)) where
     pub judging : Judging
     judging = by (ratios_ok r) (heard request) (read_in v request) refl refl refl
       where
-        by : (o h : Bool) (s : Span) → ratios_ok r ≡ o → heard request ≡ h → read_in v request ≡ s → Judging
+        by : (o h : Bool) (s : Result Span ErrorCode) → ratios_ok r ≡ o → heard request ≡ h → read_in v request ≡ s → Judging
         by false h s x y z = refuses RatioOutOfLimits (row_3 x)
         by true false s x y z = refuses NotARead (row_7 (x, λ asks. false≢true (sym y ∙ asks.hears)))
-        by true true (span.Error code) x y z = refuses NotARead (row_7 (x, λ asks. no_run code z asks.items))
-        by true true (span.Items first count) x y z = at_reply (record { ratios = x; asks = record { hears = y; first = first; count = count; items = z } })
+        by true true (Err code) x y z = refuses NotARead (row_7 (x, λ asks. no_run code z asks.items))
+        by true true (Ok s) x y z = at_reply (record { ratios = x; asks = record { hears = y; first = s.first; count = s.count; items = z } })
 
   -- ---- an item of it
 
@@ -251,7 +251,7 @@ module _ (v : View) (good : T (passes v)) where
     given = collector_in v request reply plate index
 
     -- what is given once request and reply are judged
-    abbrev on : Judgement → Answer
+    abbrev on : Result Span Unread → Answer
     on judgement = on_data v judgement (λ its. item_of plate.order (t_of r) its reply index)
 
     pub to_judged : given ≡ on (judged_in v request reply r)

@@ -1,12 +1,13 @@
 -- Paper 01, "Collector": a request, the reply to it, KTA, KTV and an item index in; the answer out, in the paper's reading order:
 -- 3, 7 to 11, the error code, 12, 13. It goes by a view, the directory and the most words of the meter that was asked. Paper 02, request 5:
 -- it is told the order of words too.
-use Rattle.std.specs.Prelude.{ℕ, ◌+◌, ◌*◌, not, cond, List, ltb, length, get_or, take}
+use Rattle.std.specs.Prelude.{ℕ, ◌+◌, ◌*◌, not, cond, List, ltb, length, get_or, take, Result, Ok, Err}
 use Rattle.refusal.specs.declared.Refusal.TheVariants.{IndexPastItems}
 use Rattle.words.specs.declared.Order.{Order}
 use Rattle.words.specs.Words.{value_at}
 use Rattle.ratio.specs.Ratios.{t_of}
 use Rattle.directory.specs.declared.Item.{Item}
+use Rattle.directory.specs.declared.Span.{Span}
 use Rattle.directory.specs.Item.{none}
 use Rattle.directory.specs.Run.{run_items, words_of}
 use Rattle.directory.specs.Views.{View}
@@ -14,9 +15,8 @@ use Rattle.own.specs.Own.{own}
 use Rattle.reading.specs.declared.Answer.{Answer}
 use Rattle.reading.specs.declared.Answer.TheVariants as answer
 use Rattle.reading.specs.Readings.{reading_of}
-use Rattle.replies.specs.declared.Judgement.{Judgement}
-use Rattle.replies.specs.declared.Judgement.TheVariants.{Items, Error, Refused}
-use Rattle.replies.specs.Judged.{judged_in}
+use Rattle.replies.specs.declared.Unread.{Unread}
+use Rattle.replies.specs.Judged.{unread, judged_in}
 use Rattle.collector.specs.declared.Nameplate.{Nameplate}
 
 -- where an item's words stand: behind address, function and byte number, and behind the words of the items before it
@@ -30,10 +30,9 @@ item_of o t its reply index =
     (reading_of t (get_or its index none) (value_at o (get_or its index none).words reply (place_of its index)))
 
 -- data is read item by item; the error code and a refusal are handed on
-abbrev pub on_data : View → Judgement → (List Item → Answer) → Answer
-on_data v (Items first count) go = go (run_items v.seen first count)
-on_data v (Error code) go = answer.Error code
-on_data v (Refused reason) go = answer.Refused reason
+abbrev pub on_data : View → Result Span Unread → (List Item → Answer) → Answer
+on_data v (Ok asked) go = go (run_items v.seen asked.first asked.count)
+on_data v (Err why) go = unread why
 
 -- what the collector gives, over a view and told a meter's nameplate: 3, 7 to 11 or the error code; else 12, 13 or the reading of the item
 -- asked

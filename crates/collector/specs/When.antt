@@ -1,5 +1,5 @@
 -- Paper 01, "Refusal numbers", rows 3 and 7 to 14: when each answer is given, and what no reply can be misread as.
-use Rattle.std.specs.Prelude.{◌≡◌, ◌↔◌, ◌⊎◌, ℕ, ◌+◌, ◌*◌, ◌≤◌, ◌<◌, Bool, true, false, ◌||◌, not, List, ltb, eqb, length, get_or}
+use Rattle.std.specs.Prelude.{◌≡◌, ◌↔◌, ◌⊎◌, ℕ, ◌+◌, ◌*◌, ◌≤◌, ◌<◌, Bool, true, false, ◌||◌, not, List, ltb, eqb, length, get_or, Ok}
 use Rattle.refusal.specs.declared.ErrorCode.{ErrorCode}
 use Rattle.refusal.specs.Numbers.{refused_by, error_by}
 use Rattle.crc.specs.Crc.{intact}
@@ -10,9 +10,8 @@ use Rattle.ratio.specs.Ratios.{ratios_ok, t_of}
 use Rattle.counts.specs.declared.Count.{Count}
 use Rattle.counts.specs.Counting.{top_count, top_low, top_high, join_of, join_halves_of, join_told}
 use Rattle.directory.specs.declared.Item.{Item}
-use Rattle.directory.specs.declared.Span.TheVariants.{Items}
 use Rattle.directory.specs.Item.{none}
-use Rattle.directory.specs.Run.{run_items}
+use Rattle.directory.specs.Run.{span, run_items}
 use Rattle.directory.specs.Views.{View}
 use Rattle.modbus.specs.Frame.{address_of, word_number}
 use Rattle.modbus.specs.Read.{read_in}
@@ -37,7 +36,7 @@ module _ (v : View) where
     pub hears : heard request ≡ true
     pub first : ℕ
     pub count : ℕ
-    pub items : read_in v request ≡ Items first count
+    pub items : read_in v request ≡ Ok (span first count)
 
   -- 3 and 7 are passed
   pub record Asked (request : List ℕ) (r : Ratios) : Type 0 where

@@ -1,11 +1,12 @@
 -- Paper 02, request 4: one call for a whole reply. It is said by the calls one by one: what each gives, for every index in turn.
-use Rattle.std.specs.Prelude.{◌≡◌, ◌↔◌, ◌⊎◌, ℕ, zero, suc, ◌^◌, ◌≤◌, ◌<◌, Bool, true, false, ◌||◌, cond, List, [], ◌∷◌, ◌++◌, map, ltb, eqb, length, get_or}
+use Rattle.std.specs.Prelude.{◌≡◌, ◌↔◌, ◌⊎◌, ℕ, zero, suc, ◌^◌, ◌≤◌, ◌<◌, Bool, true, false, ◌||◌, cond, List, [], ◌∷◌, ◌++◌, map, ltb, eqb, length, get_or, Result, Ok, Err}
 use Rattle.std.proofs.lemmas.List.Edits.{sets}
 use Rattle.refusal.specs.declared.Refusal.TheVariants.{ValueImpossible, RowShort}
 use Rattle.refusal.specs.Numbers.{refusal_number, error_number, refused_by, error_by}
 use Rattle.crc.specs.Crc.{intact}
 use Rattle.ratio.specs.declared.Ratios.{Ratios}
 use Rattle.ratio.specs.Ratios.{ratios_ok, t_of}
+use Rattle.directory.specs.declared.Span.{Span}
 use Rattle.directory.specs.Views.{View}
 use Rattle.own.specs.Own.{own}
 use Rattle.reading.specs.declared.Quantity.{Quantity}
@@ -15,19 +16,17 @@ use Rattle.reading.specs.Told.{kind_of}
 use Rattle.reading.specs.Readings.{thirteen}
 use Rattle.reading.specs.Cells.{cell_of, read_back}
 use Rattle.collector.specs.declared.Nameplate.{Nameplate}
-use Rattle.replies.specs.declared.Judgement.{Judgement}
-use Rattle.replies.specs.declared.Judgement.TheVariants as judgement
-use Rattle.collector.specs.declared.whole.Whole.{Whole}
-use Rattle.collector.specs.declared.whole.Whole.TheVariants.{Items, Error, Refused}
+use Rattle.replies.specs.declared.Unread.{Unread}
+use Rattle.replies.specs.declared.Unread.TheVariants.{Error, Refused}
 use Rattle.replies.specs.Judged.{length_wrong, judged_in}
 use Rattle.collector.specs.Collector.{collector_in}
 use Rattle.collector.specs.When.{Asks, Asked, Fits, asked_by, item_at, value_in, ForeignReply, Misfits, GivesCode, ReplyGives}
 
 -- an answer in numbers: 0 and how many items; the meter's error code; the number of the refusal
-abbrev pub whole_told : Whole → List ℕ
-whole_told (Items n) = 0 ∷ n ∷ []
-whole_told (Error code) = error_by (error_number code)
-whole_told (Refused reason) = refused_by (refusal_number reason)
+abbrev pub whole_told : Result ℕ Unread → List ℕ
+whole_told (Ok n) = 0 ∷ n ∷ []
+whole_told (Err (Error code)) = error_by (error_number code)
+whole_told (Err (Refused reason)) = refused_by (refusal_number reason)
 
 -- asking one by one, for every index in turn, so many
 unfoldable pub in_turn : ℕ → (ℕ → Answer) → List Answer
@@ -54,38 +53,37 @@ readings_in (answer.Refused reason ∷ rest) = readings_in rest
 
 -- what the call leads to: its answer, and both rows
 pub record Rows : Type 0 where
-  pub answer : Whole
+  pub answer : Result ℕ Unread
   pub values : List ℕ
   pub kinds : List ℕ
 
 -- refusals and error codes leave both rows
-abbrev pub kept_by : Whole → List ℕ → List ℕ → Rows
+abbrev pub kept_by : Result ℕ Unread → List ℕ → List ℕ → Rows
 kept_by answer values kinds = record { answer = answer; values = values; kinds = kinds }
 
 -- the rows by what was given for every index in turn: values in the one, kind numbers in the other; cells beyond the items stay
 unfoldable pub filled_by : List Answer → List ℕ → List ℕ → Rows
 filled_by answers values kinds =
     -- 15, a row shorter than the items, before 13
-    cond (ltb (length values) (length answers) || ltb (length kinds) (length answers)) (kept_by (Refused RowShort) values kinds)
+    cond (ltb (length values) (length answers) || ltb (length kinds) (length answers)) (kept_by (Err (Refused RowShort)) values kinds)
     -- if any item is refused with 13, that is given
-    (cond (any_thirteen answers) (kept_by (Refused ValueImpossible) values kinds)
+    (cond (any_thirteen answers) (kept_by (Err (Refused ValueImpossible)) values kinds)
     (record {
-      answer = Items (length answers);
+      answer = Ok (length answers);
       values = sets values 0 (map cell_of (readings_in answers));
       kinds = sets kinds 0 (map kind_of (readings_in answers));
     }))
 
 -- 3, 7 to 11 and the error code are given as to each call; of data, every index in turn
-abbrev pub on_reply : Judgement → (ℕ → ℕ → Rows) → List ℕ → List ℕ → Rows
-on_reply (judgement.Items first count) go values kinds = go first count
-on_reply (judgement.Error code) go values kinds = kept_by (Error code) values kinds
-on_reply (judgement.Refused reason) go values kinds = kept_by (Refused reason) values kinds
+abbrev pub on_reply : Result Span Unread → (ℕ → Rows) → List ℕ → List ℕ → Rows
+on_reply (Ok asked) go values kinds = go asked.count
+on_reply (Err why) go values kinds = kept_by (Err why) values kinds
 
 -- what the call gives and fills, over a view
 unfoldable pub whole_in : View → List ℕ → List ℕ → Nameplate → List ℕ → List ℕ → Rows
 whole_in v request reply plate values kinds =
     on_reply (judged_in v request reply plate.ratios)
-    (λ first count. filled_by (in_turn count (collector_in v request reply plate)) values kinds)
+    (λ count. filled_by (in_turn count (collector_in v request reply plate)) values kinds)
     values kinds
 
 -- of a meter with paper 01's own directory
@@ -93,7 +91,7 @@ abbrev pub whole_of : List ℕ → List ℕ → Nameplate → List ℕ → List 
 whole_of request reply plate values kinds = whole_in own request reply plate values kinds
 
 -- all that a contract allows: the answer and both rows are those of the definition
-pub record Filled (defined : Rows) (x : Whole) (values kinds : List ℕ) : Type 0 where
+pub record Filled (defined : Rows) (x : Result ℕ Unread) (values kinds : List ℕ) : Type 0 where
   pub answers : x ≡ defined.answer
   pub cells : values ≡ defined.values
   pub numbers : kinds ≡ defined.kinds

@@ -13,15 +13,15 @@ mod whole;
 
 use directory::Reach;
 use own::table;
-use replies::Judgement;
 
 // All that a collector's program needs is here: `read`, `read_whole`, the joins, and the types of what they take and give.
-pub use counts::{Count, Joined, WattHours, join, join_halves};
+pub use counts::{Count, WattHours, join, join_halves};
 pub use ratio::Ratios;
 pub use reading::{Answer, Quantity};
 pub use refusal::{ErrorCode, Refusal};
+pub use replies::Unread;
 pub use signed::Signed;
-pub use whole::{Whole, read_whole};
+pub use whole::read_whole;
 pub use words::Order;
 
 // What a collector is told of the meter that it asks: the transformer ratios, and which word of a long goes first.
@@ -50,15 +50,13 @@ fn with_table(
     requires { Lent table.now reach }
     ensures { result ≡ collector_in (view_of table.now reach) request.now reply.now plate index }
 {
-    let judged = replies::judge(table, reach, request, reply, plate.ratios);
-    match judged {
-        Judgement::Items { first, count } => {
-            let asked = directory::part(table, first, count);
+    match replies::judge(table, reach, request, reply, plate.ratios) {
+        Ok(span) => {
+            let asked = directory::part(table, span.first, span.count);
             let order = plate.order;
             item(asked, reply, order, plate.ratios.tenths(), index)
         }
-        Judgement::Error(code) => Answer::Error(code),
-        Judgement::Refused(reason) => Answer::Refused(reason),
+        Err(why) => Answer::from(why),
     }
 }
 

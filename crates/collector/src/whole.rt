@@ -14,22 +14,14 @@ use crate::Nameplate;
 use directory::Reach;
 use own::table;
 use reading::Answer;
-use refusal::{ErrorCode, Refusal};
-use replies::Judgement;
+use refusal::Refusal;
+use replies::Unread;
 use words::Order;
-
-// What a whole reply comes to: how many items there are, the meter's error code, or a refusal.
-#[derive(Clone, Copy)]
-pub enum Whole {
-    Items(usize),
-    Error(ErrorCode),
-    Refused(Refusal),
-}
 
 // The words that the longest reply has room for, and so the most items.
 const WORDS_MOST: usize = 125;
 
-// Reads every item of a reply: from cell 0 on, `values` gets what each reads as (`Quantity::cell`) and `kinds` the number of its kind
+// Reads every item of a reply, and answers how many there are: from cell 0 on, `values` gets what each reads as (`Quantity::cell`) and `kinds` the number of its kind
 // (`Quantity::kind`). Only where all items are read is a cell written.
 pub fn read_whole(
     request: &[u8],
@@ -37,7 +29,7 @@ pub fn read_whole(
     plate: Nameplate,
     values: &mut [u64],
     kinds: &mut [u8],
-) -> Whole
+) -> Result<usize, Unread>
     ensures { Filled (whole_of request.now reply.now plate values.old kinds.old) result values.new kinds.new }
 {
     with_table(
@@ -60,20 +52,14 @@ fn with_table(
     plate: Nameplate,
     values: &mut [u64],
     kinds: &mut [u8],
-) -> Whole
+) -> Result<usize, Unread>
     requires { Lent table.now reach }
     ensures { Filled (whole_in (view_of table.now reach) request.now reply.now plate values.old kinds.old) result values.new kinds.new }
 {
-    let judged = replies::judge(table, reach, request, reply, plate.ratios);
-    match judged {
-        Judgement::Items { first, count } => {
-            let asked = directory::part(table, first, count);
-            let order = plate.order;
-            fill(asked, reply, order, plate.ratios.tenths(), values, kinds)
-        }
-        Judgement::Error(code) => Whole::Error(code),
-        Judgement::Refused(reason) => Whole::Refused(reason),
-    }
+    let span = replies::judge(table, reach, request, reply, plate.ratios)?;
+    let asked = directory::part(table, span.first, span.count);
+    let order = plate.order;
+    fill(asked, reply, order, plate.ratios.tenths(), values, kinds)
 }
 
 // Fills the rows, from a data reply that fits the request. What is read is kept apart until all of it is: the last item may yet be
@@ -85,22 +71,22 @@ fn fill(
     tenths: u32,
     values: &mut [u64],
     kinds: &mut [u8],
-) -> Whole
+) -> Result<usize, Unread>
     requires items_ruled { T (every shaped (items asked.now)) × T (every meant (items asked.now)) }
     requires data_in_reply { (3 + 2 * words_of (items asked.now) ≤ length reply.now) × (words_of (items asked.now) ≤ 125) }
     ensures { Filled (filled_by (in_turn (length (items asked.now)) (item_of order tenths (items asked.now) reply.now)) values.old kinds.old) result values.new kinds.new }
 {
     let n = asked.len() / directory::NUMBERS_PER_ITEM;
     if (values.len() < n) | (kinds.len() < n) {
-        return Whole::Refused(Refusal::RowShort);
+        return Err(Unread::Refused(Refusal::RowShort));
     }
     let mut cells = [0u64; WORDS_MOST];
     let mut numbers = [0u8; WORDS_MOST];
     if !all_read(asked, reply, order, tenths, &mut cells, &mut numbers) {
-        return Whole::Refused(Refusal::ValueImpossible);
+        return Err(Unread::Refused(Refusal::ValueImpossible));
     }
     lay(&cells, &numbers, n, values, kinds);
-    Whole::Items(n)
+    Ok(n)
 }
 
 // Reads the items in turn, each behind the words of the one before it. Whether none of them is refused.

@@ -10,15 +10,14 @@ use lib.Dec.{T, leb, ltb, eqb}
 use lib.ListN.{length, get_or, take, length-take}
 use lib.Seq.{get_or-take, length-take-le}
 use borrow.Author.Tests.{le-leb, le-ltb, lt-ltb, leb-true, leb-false, ltb-true, eqb-true, eqb-false}
+use Rattle.std.specs.Prelude.{Option, Some, None, Result, Ok, Err}
+use Rattle.refusal.specs.declared.ErrorCode.{ErrorCode}
 use Rattle.refusal.specs.declared.ErrorCode.TheVariants.{Address, Data}
 use Rattle.directory.specs.declared.Item.{Item}
-use Rattle.directory.specs.declared.Found.{Found}
-use Rattle.directory.specs.declared.Found.TheVariants.{At, Nothing}
 use Rattle.directory.specs.declared.Span.{Span}
-use Rattle.directory.specs.declared.Span.TheVariants.{Items, Error}
 use Rattle.directory.specs.Item.{none, ends}
 use Rattle.directory.specs.Order.{ascends, every, narrow, ruled, shaped, meant, tested}
-use Rattle.directory.specs.Run.{find_in, on_item, is_l, run_from, run_in}
+use Rattle.directory.specs.Run.{find_in, on_item, is_l, run_from, run_in, span}
 use Rattle.directory.specs.Views.{View, passes}
 use Rattle.directory.specs.Tenant.{for_tenant, leading, tenant_of, TenantSees}
 use Rattle.directory.proofs.Order.{left, right, both, every_take, Ascends, apart, Narrow, ruled_ascends, ruled_narrow}
@@ -59,35 +58,35 @@ module _ (its : List Item) (n : ℕ) where
   below : {k : ℕ} → k < length firsts → k < n
   below h = omega (arith, h, length-take n its)
 
-  module _ (x y : Span) where
+  module _ (x y : Result Span ErrorCode) where
     -- the same, or error 02
     abbrev Ends : Type 0
-    Ends = (x ≡ y) ⊎ (x ≡ Error Address)
+    Ends = (x ≡ y) ⊎ (x ≡ Err Address)
 
-  found_either : (l : List Item) (j x i : ℕ) → (find_in (take j l) x i ≡ find_in l x i) ⊎ (find_in (take j l) x i ≡ Nothing)
+  found_either : (l : List Item) (j x i : ℕ) → (find_in (take j l) x i ≡ find_in l x i) ⊎ (find_in (take j l) x i ≡ None)
   unfolding find_in
   found_either l zero x i = inr refl
   found_either [] (suc j) x i = inl refl
   found_either (it ∷ l) (suc j) x i = by (eqb it.start x) (found_either l j x (i + 1))
     where
-      by : (b : Bool) → (find_in (take j l) x (i + 1) ≡ find_in l x (i + 1)) ⊎ (find_in (take j l) x (i + 1) ≡ Nothing) → (cond b (At i) (find_in (take j l) x (i + 1)) ≡ cond b (At i) (find_in l x (i + 1))) ⊎ (cond b (At i) (find_in (take j l) x (i + 1)) ≡ Nothing)
+      by : (b : Bool) → (find_in (take j l) x (i + 1) ≡ find_in l x (i + 1)) ⊎ (find_in (take j l) x (i + 1) ≡ None) → (cond b (Some i) (find_in (take j l) x (i + 1)) ≡ cond b (Some i) (find_in l x (i + 1))) ⊎ (cond b (Some i) (find_in (take j l) x (i + 1)) ≡ None)
       by true h = inl refl
       by false h = h
 
   -- at an address: what follows there is the same, or error 02
-  on_either : (x : ℕ) (go went : ℕ → Item → Span) → ((k : ℕ) (it : Item) → Ends (go k it) (went k it)) → Ends (on_item firsts (find_in firsts x 0) go) (on_item its (find_in its x 0) went)
+  on_either : (x : ℕ) (go went : ℕ → Item → Result Span ErrorCode) → ((k : ℕ) (it : Item) → Ends (go k it) (went k it)) → Ends (on_item firsts (find_in firsts x 0) go) (on_item its (find_in its x 0) went)
   on_either x go went on = by (find_in firsts x 0) refl (found_either its n x 0)
     where
-      by : (found : Found) → find_in firsts x 0 ≡ found → (find_in firsts x 0 ≡ find_in its x 0) ⊎ (find_in firsts x 0 ≡ Nothing) → Ends (on_item firsts (find_in firsts x 0) go) (on_item its (find_in its x 0) went)
-      by Nothing e h = inr (ap (λ (f : Found). on_item firsts f go) e)
-      by (At k) e (inr z) = inr (ap (λ (f : Found). on_item firsts f go) z)
-      by (At k) e (inl same) =
-          let here = ap (λ (f : Found). on_item firsts f go) e in
-          let there = ap (λ (f : Found). on_item its f went) (sym same ∙ e) in
+      by : (found : Option ℕ) → find_in firsts x 0 ≡ found → (find_in firsts x 0 ≡ find_in its x 0) ⊎ (find_in firsts x 0 ≡ None) → Ends (on_item firsts (find_in firsts x 0) go) (on_item its (find_in its x 0) went)
+      by None e h = inr (ap (λ (f : Option ℕ). on_item firsts f go) e)
+      by (Some k) e (inr z) = inr (ap (λ (f : Option ℕ). on_item firsts f go) z)
+      by (Some k) e (inl same) =
+          let here = ap (λ (f : Option ℕ). on_item firsts f go) e in
+          let there = ap (λ (f : Option ℕ). on_item its f went) (sym same ∙ e) in
           let item : get_or firsts k none ≡ get_or its k none = get_or-take n its k none (below (found_inside firsts x k e)) in
           rw (here, there, item) (on k (get_or its k none))
 
-  either_way : (b : Bool) (w x y z : Span) → Ends w x → Ends y z → Ends (cond b w y) (cond b x z)
+  either_way : (b : Bool) (w x y z : Result Span ErrorCode) → Ends w x → Ends y z → Ends (cond b w y) (cond b x z)
   either_way true w x y z h k = h
   either_way false w x y z h k = k
 
@@ -105,7 +104,7 @@ module _ (its : List Item) (n : ℕ) where
 
   -- ---- a run that stays among them
 
-  found_stays : (l : List Item) (j x i k : ℕ) → find_in l x i ≡ At k → k < i + j → find_in (take j l) x i ≡ At k
+  found_stays : (l : List Item) (j x i k : ℕ) → find_in l x i ≡ Some k → k < i + j → find_in (take j l) x i ≡ Some k
   unfolding find_in
   found_stays [] j x i k e h = let z : ◌≡◌ {A = ℕ} 0 1 = cc in let y : ⊥ = omega arith in absurd y
   found_stays (it ∷ l) zero x i k e h =
@@ -113,13 +112,13 @@ module _ (its : List Item) (n : ℕ) where
       absurd (omega (arith, r.at, h))
   found_stays (it ∷ l) (suc j) x i k e h = by (eqb it.start x) e (λ f. found_stays l j x (i + 1) k f (omega (arith, h)))
     where
-      by : (b : Bool) → cond b (At i) (find_in l x (i + 1)) ≡ At k → (find_in l x (i + 1) ≡ At k → find_in (take j l) x (i + 1) ≡ At k) → cond b (At i) (find_in (take j l) x (i + 1)) ≡ At k
+      by : (b : Bool) → cond b (Some i) (find_in l x (i + 1)) ≡ Some k → (find_in l x (i + 1) ≡ Some k → find_in (take j l) x (i + 1) ≡ Some k) → cond b (Some i) (find_in (take j l) x (i + 1)) ≡ Some k
       by true e later = e
       by false e later = later e
 
   module _ (asc : Ascends 0 its) (wide : (k : ℕ) → k < length its → Narrow (get_or its k none)) (first f c : ℕ) (few : f + c ≤ n) where
     -- a turn at the item of index first + count, of which words are due
-    turn_stays : (count x due : ℕ) → 0 < due → Stands its (first + count) x → first + count ≤ length its → run_from its first count x due ≡ Items f c → (later : (y left : ℕ) → left < due → Stands its (first + (count + 1)) y → first + (count + 1) ≤ length its → run_from its first (count + 1) y left ≡ Items f c → run_from firsts first (count + 1) y left ≡ Items f c) → run_from firsts first count x due ≡ Items f c
+    turn_stays : (count x due : ℕ) → 0 < due → Stands its (first + count) x → first + count ≤ length its → run_from its first count x due ≡ Ok (span f c) → (later : (y left : ℕ) → left < due → Stands its (first + (count + 1)) y → first + (count + 1) ≤ length its → run_from its first (count + 1) y left ≡ Ok (span f c) → run_from firsts first (count + 1) y left ≡ Ok (span f c)) → run_from firsts first count x due ≡ Ok (span f c)
     turn_stays count x due d s l e later = by (find_in its x 0) refl
       where
         i : ℕ
@@ -128,9 +127,9 @@ module _ (its : List Item) (n : ℕ) where
         left_of : Rest its first count due f c
         left_of = rest its asc wide first due count x due f c (omega arith) l s e
 
-        by : (found : Found) → find_in its x 0 ≡ found → run_from firsts first count x due ≡ Items f c
-        by Nothing g = no_run Address (run_gap its first count x due d g) e
-        by (At k) g = by_words (leb (get_or its i none).words due) refl
+        by : (found : Option ℕ) → find_in its x 0 ≡ found → run_from firsts first count x due ≡ Ok (span f c)
+        by None g = no_run Address (run_gap its first count x due d g) e
+        by (Some k) g = by_words (leb (get_or its i none).words due) refl
           where
             here_is : k ≡ i
             here_is = stands_here s g
@@ -138,19 +137,19 @@ module _ (its : List Item) (n : ℕ) where
             known : i < length its
             known = omega (arith, found_inside its x k g, here_is)
 
-            found_there : find_in its x 0 ≡ At i
-            found_there = g ∙ ap At here_is
+            found_there : find_in its x 0 ≡ Some i
+            found_there = g ∙ ap Some here_is
 
             among : i < n
             among = omega (arith, few, left_of.same, unfinished left_of d)
 
-            found_here : find_in firsts x 0 ≡ At i
+            found_here : find_in firsts x 0 ≡ Some i
             found_here = found_stays its n x 0 i found_there (omega (arith, among))
 
             item : get_or firsts i none ≡ get_or its i none
             item = get_or-take n its i none among
 
-            by_words : (b : Bool) → leb (get_or its i none).words due ≡ b → run_from firsts first count x due ≡ Items f c
+            by_words : (b : Bool) → leb (get_or its i none).words due ≡ b → run_from firsts first count x due ≡ Ok (span f c)
             by_words false t = no_run Data (run_half its first count x i (wide i known) found_there due d (leb-false _ _ t)) e
             by_words true t =
                 let w = leb-true (get_or its i none).words due t in
@@ -161,7 +160,7 @@ module _ (its : List Item) (n : ℕ) where
                 (rw item at on)
                 ∙ later (ends (get_or its i none)) (due - (get_or its i none).words) (omega (arith, (wide i known).some, w)) (rw next at (stands_next asc i known)) (omega (arith, known)) (sym goes ∙ e)
 
-    run_stays : (fuel count x due : ℕ) → due ≤ fuel → Stands its (first + count) x → first + count ≤ length its → run_from its first count x due ≡ Items f c → run_from firsts first count x due ≡ Items f c
+    run_stays : (fuel count x due : ℕ) → due ≤ fuel → Stands its (first + count) x → first + count ≤ length its → run_from its first count x due ≡ Ok (span f c) → run_from firsts first count x due ≡ Ok (span f c)
     run_stays zero count x due most s l e =
         let z : due ≡ 0 = omega (arith, most) in
         rw (z, run_done firsts first count x) (sym (run_done its first count x) ∙ (rw z at e))
@@ -172,12 +171,12 @@ module _ (its : List Item) (n : ℕ) where
         (some_due due)
 
   -- a run whose items are all among the first is the same over these
-  pub run_within : T (ruled its) → (start words f c : ℕ) → 0 < words → run_in its start words ≡ Items f c → f + c ≤ n → run_in firsts start words ≡ Items f c
+  pub run_within : T (ruled its) → (start words f c : ℕ) → 0 < words → run_in its start words ≡ Ok (span f c) → f + c ≤ n → run_in firsts start words ≡ Ok (span f c)
   run_within r start words f c some e few = by (find_in its start 0) refl
     where
-      by : (found : Found) → find_in its start 0 ≡ found → run_in firsts start words ≡ Items f c
-      by Nothing g = no_run Address (run_nowhere its start words g) e
-      by (At k) g =
+      by : (found : Option ℕ) → find_in its start 0 ≡ found → run_in firsts start words ≡ Ok (span f c)
+      by None g = no_run Address (run_nowhere its start words g) e
+      by (Some k) g =
           let begun = sym (run_starts its start words k g) ∙ e in
           let at : k + 0 ≡ k = add-zero k in
           let s : Stands its (k + 0) start = rw at (stands_first start k g) in

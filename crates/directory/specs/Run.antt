@@ -1,22 +1,24 @@
 -- Paper 01, "What the meter does with a frame", step 4, over any directory: where a read starts, and the run of its items.
-use Rattle.std.specs.Prelude.{◌≡◌, ℕ, zero, suc, ◌+◌, ◌≤◌, List, [], ◌∷◌, Bool, cond, length, get_or, take, drop, eqb}
+use Rattle.std.specs.Prelude.{◌≡◌, ℕ, zero, suc, ◌+◌, ◌≤◌, List, [], ◌∷◌, Bool, cond, length, get_or, take, drop, eqb, Option, Some, None, Result, Ok, Err}
+use Rattle.refusal.specs.declared.ErrorCode.{ErrorCode}
 use Rattle.refusal.specs.declared.ErrorCode.TheVariants.{Address, Data}
 use Rattle.directory.specs.declared.Item.{Item}
-use Rattle.directory.specs.declared.Found.{Found}
-use Rattle.directory.specs.declared.Found.TheVariants.{At, Nothing}
 use Rattle.directory.specs.declared.Span.{Span}
-use Rattle.directory.specs.declared.Span.TheVariants.{Items, Error}
 use Rattle.directory.specs.Item.{none, ends}
 
+-- the first item, by its index, and how many
+abbrev pub span : ℕ → ℕ → Span
+span first count = record { first = first; count = count }
+
 -- the index, counted from i, of the first item that starts at an address
-unfoldable pub find_in : List Item → ℕ → ℕ → Found
-find_in [] address i = Nothing
-find_in (it ∷ its) address i = cond (eqb it.start address) (At i) (find_in its address (i + 1))
+unfoldable pub find_in : List Item → ℕ → ℕ → Option ℕ
+find_in [] address i = None
+find_in (it ∷ its) address i = cond (eqb it.start address) (Some i) (find_in its address (i + 1))
 
 -- no item starts there: error 02; else it goes on with the item that was found
-abbrev pub on_item : List Item → Found → (ℕ → Item → Span) → Span
-on_item dir Nothing go = Error Address
-on_item dir (At i) go = go i (get_or dir i none)
+abbrev pub on_item : List Item → Option ℕ → (ℕ → Item → Result Span ErrorCode) → Result Span ErrorCode
+on_item dir None go = Err Address
+on_item dir (Some i) go = go i (get_or dir i none)
 
 -- L is sent as two words
 abbrev pub is_l : Item → Bool
@@ -24,13 +26,13 @@ is_l it = eqb it.words 2
 
 -- the run goes item by item, each next starting where the one before ends: `count` items are passed, and some words are
 -- still due at an address. If only the first half of an L is due: error 03
-unfoldable pub run_from : List Item → ℕ → ℕ → ℕ → ℕ → Span
-run_from dir first count address zero = Items first count
+unfoldable pub run_from : List Item → ℕ → ℕ → ℕ → ℕ → Result Span ErrorCode
+run_from dir first count address zero = Ok (span first count)
 run_from dir first count address (suc zero) =
     on_item dir (find_in dir address 0)
     (λ _ it. cond (is_l it)
-    (Error Data)
-    (Items first (count + 1)))
+    (Err Data)
+    (Ok (span first (count + 1))))
 run_from dir first count address (suc (suc due)) =
     on_item dir (find_in dir address 0)
     (λ _ it. cond (is_l it)
@@ -38,7 +40,7 @@ run_from dir first count address (suc (suc due)) =
     (run_from dir first (count + 1) (ends it) (suc due)))
 
 -- start not the first address of an item: error 02; else the run from there, for the words asked
-unfoldable pub run_in : List Item → ℕ → ℕ → Span
+unfoldable pub run_in : List Item → ℕ → ℕ → Result Span ErrorCode
 run_in dir start words = on_item dir (find_in dir start 0) (λ first _. run_from dir first 0 start words)
 
 -- the items of a run

@@ -12,7 +12,7 @@ ghost use Rattle.directory.specs.Run.{find_in, run_in};
 
 use refusal::ErrorCode;
 
-#[derive(Clone, Copy)]
+#[derive(Clone, Copy, Debug, PartialEq, Eq)]
 pub struct Item {
     // Its first address.
     pub start: u16,
@@ -40,7 +40,7 @@ impl Item {
 pub const NUMBERS_PER_ITEM: usize = 4;
 
 // How much of a table may be read. It is handed on with the table.
-#[derive(Clone, Copy)]
+#[derive(Clone, Copy, Debug, PartialEq, Eq)]
 pub struct Reach {
     // How many of the table's items, from its first on.
     pub items: usize,
@@ -48,56 +48,46 @@ pub struct Reach {
     pub most: u16,
 }
 
-// The index of an item, or that there is none.
-#[derive(Clone, Copy)]
-pub enum Found {
-    At(usize),
-    Nothing,
+// The items that a read asks for: `count` of them, from the index `first` on.
+#[derive(Clone, Copy, Debug, PartialEq, Eq)]
+pub struct Span {
+    pub first: usize,
+    pub count: usize,
 }
 
-// The items that a read asks for, `count` of them from the index `first` on, or what is wrong with the read.
-#[derive(Clone, Copy)]
-pub enum Span {
-    Items { first: usize, count: usize },
-    Error(ErrorCode),
-}
-
-// The run of items for `words` words from the address `start`, among the first `seen` items of a table. Only the first of the run
+// The run of items for `words` words from the address `start`, among the first `seen` items of a table, or what is wrong with it. Only the first of the run
 // is searched for: the table ascends, so the item that starts where another ends can only be the next one.
-pub fn run_in(table: &[u16], seen: usize, start: u16, words: u16) -> Span
+pub fn run_in(table: &[u16], seen: usize, start: u16, words: u16) -> Result<Span, ErrorCode>
     requires { (4 * seen ≤ length table.now) × T (ruled (take seen (items table.now))) }
     ensures { result ≡ run_in (take seen (items table.now)) start words }
 {
-    let found = find_in(table, seen, start);
-    let Found::At(first) = found else {
-        return Span::Error(ErrorCode::Address);
-    };
+    let first = find_in(table, seen, start).ok_or(ErrorCode::Address)?;
     let mut i = first;
-    let mut next = start as u32;
+    let mut next = u32::from(start);
     let mut due = words;
     while 0 < due {
         if seen <= i {
-            return Span::Error(ErrorCode::Address);
+            return Err(ErrorCode::Address);
         }
         let it = item_at(table, i);
-        if it.start as u32 != next {
-            return Span::Error(ErrorCode::Address);
+        if u32::from(it.start) != next {
+            return Err(ErrorCode::Address);
         }
         if due < it.words {
-            return Span::Error(ErrorCode::Data);
+            return Err(ErrorCode::Data);
         }
-        next += it.fills as u32;
+        next += u32::from(it.fills);
         due -= it.words;
         i += 1;
     }
-    Span::Items {
+    Ok(Span {
         first,
         count: i - first,
-    }
+    })
 }
 
 // The index of the item that starts at an address. The table ascends, so a search by halves finds it.
-fn find_in(table: &[u16], seen: usize, address: u16) -> Found
+fn find_in(table: &[u16], seen: usize, address: u16) -> Option<usize>
     requires { (4 * seen ≤ length table.now) × T (ruled (take seen (items table.now))) }
     ensures { result ≡ find_in (take seen (items table.now)) address 0 }
 {
@@ -107,7 +97,7 @@ fn find_in(table: &[u16], seen: usize, address: u16) -> Found
         let middle = low + (high - low) / 2;
         let it = item_at(table, middle);
         if it.start == address {
-            return Found::At(middle);
+            return Some(middle);
         }
         if it.start < address {
             low = middle + 1;
@@ -115,7 +105,7 @@ fn find_in(table: &[u16], seen: usize, address: u16) -> Found
             high = middle;
         }
     }
-    Found::Nothing
+    None
 }
 
 // The part of a table that holds a run of its items.

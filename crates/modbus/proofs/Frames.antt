@@ -7,9 +7,9 @@ use native.Mathlib.Omega.{arith}
 use lib.Dec.{leb, ltb, eqb}
 use lib.ListN.{length}
 use borrow.Author.Tests.{lt-ltb, le-ltb, ltb-false, leb-false, eqb-true, not-true}
+use Rattle.std.specs.Prelude.{Err}
 use Rattle.refusal.specs.declared.ErrorCode.TheVariants.{Data}
 use Rattle.crc.specs.Crc.{intact}
-use Rattle.directory.specs.declared.Span.TheVariants.{Error}
 use Rattle.directory.specs.Run.{run_in}
 use Rattle.directory.specs.Views.{View}
 use Rattle.modbus.specs.Frame.{address_of, function_of, start_of, word_number, byte_number, silence, write_shaped}
@@ -112,11 +112,11 @@ module _ (frame : List ℕ) where
 
 -- a read, test by test
 module _ (v : View) (frame : List ℕ) where
-  pub read_length : eqb (length frame) 8 ≡ false → Error Data ≡ read_in v frame
+  pub read_length : eqb (length frame) 8 ≡ false → Err Data ≡ read_in v frame
   unfolding read_in
   read_length h = rw h refl
 
-  pub read_number : eqb (length frame) 8 ≡ true → number_wrong v.most (word_number frame) ≡ true → Error Data ≡ read_in v frame
+  pub read_number : eqb (length frame) 8 ≡ true → number_wrong v.most (word_number frame) ≡ true → Err Data ≡ read_in v frame
   unfolding read_in
   read_number h k = rw (h, k) refl
 

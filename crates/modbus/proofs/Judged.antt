@@ -8,13 +8,14 @@ use native.Mathlib.Omega.{arith}
 use lib.Dec.{T, ltb, eqb}
 use lib.ListN.{length, take, drop}
 use borrow.Author.Tests.{ltb-false, eqb-true, eqb-false, eq-eqb}
+use Rattle.std.specs.Prelude.{Result, Ok, Err}
+use Rattle.refusal.specs.declared.ErrorCode.{ErrorCode}
 use Rattle.refusal.specs.declared.ErrorCode.TheVariants.{Function, Address, Data}
 use Rattle.directory.specs.declared.Reach.{Reach}
 use Rattle.directory.specs.declared.Span.{Span}
-use Rattle.directory.specs.declared.Span.TheVariants.{Items, Error}
 use Rattle.directory.specs.Item.{items}
 use Rattle.directory.specs.Order.{every, narrow}
-use Rattle.directory.specs.Run.{run_in, run_items, words_of}
+use Rattle.directory.specs.Run.{run_in, run_items, words_of, span}
 use Rattle.directory.specs.Views.{View, passes, view_of, Lent}
 use Rattle.directory.proofs.Errors.{no_run, data_sound, run_sound}
 use Rattle.directory.proofs.Views.{passes_ruled, passes_room, run_room, run_part, run_narrow}
@@ -25,7 +26,7 @@ use Rattle.modbus.specs.Frame.{start_of, word_number}
 use Rattle.modbus.specs.Read.{number_wrong, read_in, ReadWhen, TenantReads}
 use Rattle.modbus.proofs.Frames.{neither}
 
-data_address : Error Data ≡ Error Address → ⊥
+data_address : ◌≡◌ {A = Result Span ErrorCode} (Err Data) (Err Address) → ⊥
 data_address e = let z : ◌≡◌ {A = ℕ} 0 1 = cc in omega arith
 
 module _ (v : View) (frame : List ℕ) where
@@ -35,29 +36,29 @@ module _ (v : View) (frame : List ℕ) where
   abbrev w : Bool
   w = number_wrong v.most (word_number frame)
 
-  abbrev run : Span
+  abbrev run : Result Span ErrorCode
   run = run_in v.seen (start_of frame) (word_number frame)
 
   -- a span that is not error 03 comes from the run
-  ran : (span : Span) → (Error Data ≡ span → ⊥) → (read_in v frame ≡ span) ↔ ((length frame ≡ 8) × (w ≡ false) × (run ≡ span))
+  ran : (span : Result Span ErrorCode) → (Err Data ≡ span → ⊥) → (read_in v frame ≡ span) ↔ ((length frame ≡ 8) × (w ≡ false) × (run ≡ span))
   unfolding read_in
   ran span n = (by t w refl refl, λ h. rw (eq-eqb _ _ h.0, h.1) h.2)
     where
-      by : (x y : Bool) → t ≡ x → w ≡ y → cond (not x || y) (Error Data) run ≡ span → (length frame ≡ 8) × (w ≡ false) × (run ≡ span)
+      by : (x y : Bool) → t ≡ x → w ≡ y → cond (not x || y) (Err Data) run ≡ span → (length frame ≡ 8) × (w ≡ false) × (run ≡ span)
       by true true e f h = absurd (n h)
       by true false e f h = (eqb-true _ _ e, f, h)
       by false y e f h = absurd (n h)
 
-  wrong_data : (read_in v frame ≡ Error Data) ↔ ((length frame ≡ 8 → ⊥) ⊎ (w ≡ true) ⊎ (run ≡ Error Data))
+  wrong_data : (read_in v frame ≡ Err Data) ↔ ((length frame ≡ 8 → ⊥) ⊎ (w ≡ true) ⊎ (run ≡ Err Data))
   unfolding read_in
   wrong_data = (by t w refl refl, back t w refl refl)
     where
-      by : (x y : Bool) → t ≡ x → w ≡ y → cond (not x || y) (Error Data) run ≡ Error Data → (length frame ≡ 8 → ⊥) ⊎ (w ≡ true) ⊎ (run ≡ Error Data)
+      by : (x y : Bool) → t ≡ x → w ≡ y → cond (not x || y) (Err Data) run ≡ Err Data → (length frame ≡ 8 → ⊥) ⊎ (w ≡ true) ⊎ (run ≡ Err Data)
       by true true e f h = inr (inl f)
       by true false e f h = inr (inr h)
       by false y e f h = inl (eqb-false _ _ e)
 
-      back : (x y : Bool) → t ≡ x → w ≡ y → (length frame ≡ 8 → ⊥) ⊎ (w ≡ true) ⊎ (run ≡ Error Data) → cond (not x || y) (Error Data) run ≡ Error Data
+      back : (x y : Bool) → t ≡ x → w ≡ y → (length frame ≡ 8 → ⊥) ⊎ (w ≡ true) ⊎ (run ≡ Err Data) → cond (not x || y) (Err Data) run ≡ Err Data
       back true true e f h = refl
       back true false e f (inl h) = absurd (h (eqb-true _ _ e))
       back true false e f (inr (inl h)) = absurd (false≢true (sym f ∙ h))
@@ -67,10 +68,10 @@ module _ (v : View) (frame : List ℕ) where
 pub read_when : (v : View) (frame : List ℕ) → ReadWhen v frame
 read_when v frame =
     record {
-      error_02 = ran v frame (Error Address) data_address;
+      error_02 = ran v frame (Err Address) data_address;
       error_03 = wrong_data v frame;
-      items = λ first count. ran v frame (Items first count) (no_run Data refl);
-      never = λ h. run_sound v.seen (start_of frame) (word_number frame) ((ran v frame (Error Function) data_sound).0 h).2;
+      items = λ first count. ran v frame (Ok (span first count)) (no_run Data refl);
+      never = λ h. run_sound v.seen (start_of frame) (word_number frame) ((ran v frame (Err Function) data_sound).0 h).2;
     }
 
 -- a read that is answered with data: its length, the most words it asks for; its items stand among those seen and send just those
@@ -80,7 +81,7 @@ pub record LegalRead (v : View) (frame : List ℕ) (first count : ℕ) : Type 0 
   pub inside : first + count ≤ length v.seen
   pub sends : words_of (run_items v.seen first count) ≡ word_number frame
 
-pub legal_read : (v : View) → T (passes v) → {frame : List ℕ} {first count : ℕ} → read_in v frame ≡ Items first count → LegalRead v frame first count
+pub legal_read : (v : View) → T (passes v) → {frame : List ℕ} {first count : ℕ} → read_in v frame ≡ Ok (span first count) → LegalRead v frame first count
 legal_read v good {frame} {first} {count} e =
     let t = ((read_when v frame).items first count).0 e in
     let n = neither (ltb (word_number frame) 1) (ltb v.most (word_number frame)) t.1 in
@@ -95,25 +96,25 @@ legal_read v good {frame} {first} {count} e =
 
 module _ (v : View) (good : T (passes v)) (frame : List ℕ) where
   -- the length and the number of words are judged alike, and so is the run, or it ends in error 02
-  either : (read_in (tenant_of v) frame ≡ read_in v frame) ⊎ (read_in (tenant_of v) frame ≡ Error Address)
+  either : (read_in (tenant_of v) frame ≡ read_in v frame) ⊎ (read_in (tenant_of v) frame ≡ Err Address)
   unfolding read_in
   either = by (not (eqb (length frame) 8) || number_wrong v.most (word_number frame)) (run_first v.seen (leading for_tenant v.seen) (start_of frame) (word_number frame))
     where
-      by : (b : Bool) {x y : Span} → (x ≡ y) ⊎ (x ≡ Error Address) → (cond b (Error Data) x ≡ cond b (Error Data) y) ⊎ (cond b (Error Data) x ≡ Error Address)
+      by : (b : Bool) {x y : Result Span ErrorCode} → (x ≡ y) ⊎ (x ≡ Err Address) → (cond b (Err Data) x ≡ cond b (Err Data) y) ⊎ (cond b (Err Data) x ≡ Err Address)
       by true h = inl refl
       by false h = h
 
-  inside : (first count : ℕ) → read_in v frame ≡ Items first count → first + count ≤ length (tenant_of v).seen → read_in (tenant_of v) frame ≡ Items first count
+  inside : (first count : ℕ) → read_in v frame ≡ Ok (span first count) → first + count ≤ length (tenant_of v).seen → read_in (tenant_of v) frame ≡ Ok (span first count)
   inside first count e few =
       let t = ((read_when v frame).items first count).0 e in
       let n = neither (ltb (word_number frame) 1) (ltb v.most (word_number frame)) t.1 in
       ((read_when (tenant_of v) frame).items first count).1
       (t.0, t.1, run_within v.seen (leading for_tenant v.seen) (passes_ruled v good) _ _ first count (ltb-false _ _ n.0) t.2 (omega (arith, few, tenant_long v)))
 
-  leaves : (first count : ℕ) → read_in v frame ≡ Items first count → length (tenant_of v).seen < first + count → read_in (tenant_of v) frame ≡ Error Address
+  leaves : (first count : ℕ) → read_in v frame ≡ Ok (span first count) → length (tenant_of v).seen < first + count → read_in (tenant_of v) frame ≡ Err Address
   leaves first count e more = by either
     where
-      by : (read_in (tenant_of v) frame ≡ read_in v frame) ⊎ (read_in (tenant_of v) frame ≡ Error Address) → read_in (tenant_of v) frame ≡ Error Address
+      by : (read_in (tenant_of v) frame ≡ read_in v frame) ⊎ (read_in (tenant_of v) frame ≡ Err Address) → read_in (tenant_of v) frame ≡ Err Address
       by (inl same) = absurd (omega (arith, more, (legal_read (tenant_of v) (tenant_passes v good) (same ∙ e)).inside))
       by (inr h) = h
 
@@ -135,7 +136,7 @@ pub record AskedPart (t : List ℕ) (reach : Reach) (frame : List ℕ) (first co
   pub sends : words_of (items (take (4 * count) (drop (4 * first) t))) ≡ word_number frame
   pub room : 5 + 2 * word_number frame ≤ 256
 
-pub asked_part : (t : List ℕ) (reach : Reach) → Lent t reach → {frame : List ℕ} {first count : ℕ} → read_in (view_of t reach) frame ≡ Items first count → AskedPart t reach frame first count
+pub asked_part : (t : List ℕ) (reach : Reach) → Lent t reach → {frame : List ℕ} {first count : ℕ} → read_in (view_of t reach) frame ≡ Ok (span first count) → AskedPart t reach frame first count
 asked_part t reach lent {first = first} {count = count} e =
     let v = view_of t reach in
     let l = legal_read v lent.good e in

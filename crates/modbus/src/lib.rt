@@ -67,16 +67,16 @@ pub fn silence(own: u8, frame: &[u8]) -> bool
 }
 
 // Judges a read by a table: the items that it asks for, or what is wrong with it.
-pub fn read_in(table: &[u16], reach: Reach, frame: &[u8]) -> Span
+pub fn read_in(table: &[u16], reach: Reach, frame: &[u8]) -> Result<Span, ErrorCode>
     requires { Lent table.now reach }
     ensures { result ≡ read_in (view_of table.now reach) frame.now }
 {
     if frame.len() != READ_LENGTH {
-        return Span::Error(ErrorCode::Data);
+        return Err(ErrorCode::Data);
     }
     let words = words::word_at(frame, WORDS_AT);
     if (words < 1) | (reach.most < words) {
-        return Span::Error(ErrorCode::Data);
+        return Err(ErrorCode::Data);
     }
     directory::run_in(table, reach.items, words::word_at(frame, START_AT), words)
 }

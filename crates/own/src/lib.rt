@@ -10,6 +10,7 @@ ghost use Rattle.own.specs.Table.{directory};
 ghost use Rattle.own.specs.Own.{own_reach, tenant_reach};
 
 use directory::{Reach, Span};
+use refusal::ErrorCode;
 
 // How many items the table has.
 pub const ITEMS: usize = 148;
@@ -42,7 +43,7 @@ pub fn tenant_reach() -> Reach
 
 // The run of items for `words` words from the address `start`. Any number of words is taken: the limit of one read is
 // not tested here.
-pub fn run(start: u16, words: u16) -> Span
+pub fn run(start: u16, words: u16) -> Result<Span, ErrorCode>
     ensures { result ≡ run_in directory start words }
 {
     directory::run_in(&table::TABLE, ITEMS, start, words)

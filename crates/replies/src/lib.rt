@@ -7,7 +7,10 @@ ghost use Rattle.replies.specs.Judged.{heard, error_of, reply_of, judged_in};
 
 use directory::{Reach, Span};
 use ratio::Ratios;
+use reading::Answer;
 use refusal::{ErrorCode, Refusal};
+use std::error::Error;
+use std::fmt;
 
 // The function of an error reply to a read.
 const READ_ERROR: u8 = modbus::READ_HOLDING_REGISTERS + modbus::ERROR_FLAG;
@@ -15,31 +18,79 @@ const READ_ERROR: u8 = modbus::READ_HOLDING_REGISTERS + modbus::ERROR_FLAG;
 // The bytes of an error reply, and of a data reply without its data.
 const REPLY_LEAST: usize = 5;
 
-// What they come to.
-#[derive(Clone, Copy)]
-pub enum Judgement {
-    // Data that fits: the first of the items asked for, by its index in the directory, and how many they are.
-    Items { first: usize, count: usize },
+// Why there is no data to read: the meter's error code, or the refusal.
+#[derive(Clone, Copy, Debug, PartialEq, Eq)]
+pub enum Unread {
     Error(ErrorCode),
     Refused(Refusal),
 }
 
-// Judges a request and its reply, over a table that is lent.
-pub fn judge(table: &[u16], reach: Reach, request: &[u8], reply: &[u8], ratios: Ratios) -> Judgement
+impl From<ErrorCode> for Unread {
+    ghost use Rattle.replies.specs.declared.Unread.TheVariants.{Error};
+
+    ghost from_gives = { λ code unread. unread ≡ Error code };
+
+    fn from(code: ErrorCode) -> Unread {
+        Unread::Error(code)
+    }
+}
+
+impl From<Refusal> for Unread {
+    ghost use Rattle.replies.specs.declared.Unread.TheVariants.{Refused};
+
+    ghost from_gives = { λ reason unread. unread ≡ Refused reason };
+
+    fn from(reason: Refusal) -> Unread {
+        Unread::Refused(reason)
+    }
+}
+
+impl From<Unread> for Answer {
+    ghost use Rattle.replies.specs.Judged.{unread};
+
+    ghost from_gives = { λ why answer. answer ≡ unread why };
+
+    fn from(why: Unread) -> Answer {
+        match why {
+            Unread::Error(code) => Answer::Error(code),
+            Unread::Refused(reason) => Answer::Refused(reason),
+        }
+    }
+}
+
+impl fmt::Display for Unread {
+    fn fmt<W: fmt::Write>(&self, f: &mut fmt::Formatter<W>) -> fmt::Result {
+        match self {
+            Unread::Error(code) => write!(f, "{code}"),
+            Unread::Refused(reason) => write!(f, "{reason}"),
+        }
+    }
+}
+
+impl Error for Unread {}
+
+// Judges a request and its reply, over a table that is lent: the items asked for, where there is data that fits.
+pub fn judge(
+    table: &[u16],
+    reach: Reach,
+    request: &[u8],
+    reply: &[u8],
+    ratios: Ratios,
+) -> Result<Span, Unread>
     requires { Lent table.now reach }
     ensures { result ≡ judged_in (view_of table.now reach) request.now reply.now ratios }
 {
     if !ratios.within() {
-        return Judgement::Refused(Refusal::RatioOutOfLimits);
+        return Err(Unread::Refused(Refusal::RatioOutOfLimits));
     }
     if !heard(request) {
-        return Judgement::Refused(Refusal::NotARead);
+        return Err(Unread::Refused(Refusal::NotARead));
     }
-    let span = modbus::read_in(table, reach, request);
-    let Span::Items { first, count } = span else {
-        return Judgement::Refused(Refusal::NotARead);
+    let Ok(asked) = modbus::read_in(table, reach, request) else {
+        return Err(Unread::Refused(Refusal::NotARead));
     };
-    replied(request, reply, Judgement::Items { first, count })
+    replied(request, reply)?;
+    Ok(asked)
 }
 
 // Whether a request is a read that the meter it is addressed to would heed.
@@ -56,49 +107,46 @@ fn heard(request: &[u8]) -> bool
     !modbus::silence(address, request)
 }
 
-// What a reply to a read comes to: the items asked where it fits.
-fn replied(request: &[u8], reply: &[u8], asked: Judgement) -> Judgement
+// Whether a reply to a read has the words asked.
+fn replied(request: &[u8], reply: &[u8]) -> Result<(), Unread>
     requires { length request.now ≡ 8 }
-    ensures { result ≡ reply_of request.now reply.now asked }
+    ensures { result ≡ reply_of request.now reply.now tt }
 {
     let n = reply.len();
     if (n < REPLY_LEAST) | (modbus::FRAME_MOST < n) {
-        return Judgement::Refused(Refusal::ReplyLength);
+        return Err(Unread::Refused(Refusal::ReplyLength));
     }
     if !eight::intact(reply) {
-        return Judgement::Refused(Refusal::ReplyCrc);
+        return Err(Unread::Refused(Refusal::ReplyCrc));
     }
     let function = reply[1];
     if (reply[0] != request[0])
         | ((function != modbus::READ_HOLDING_REGISTERS) & (function != READ_ERROR))
     {
-        return Judgement::Refused(Refusal::ReplyForeign);
+        return Err(Unread::Refused(Refusal::ReplyForeign));
     }
     if function == READ_ERROR {
-        return error(reply);
+        return Err(error(reply));
     }
-    let bytes = reply[2] as usize;
-    if (bytes != 2 * words::word_at(request, modbus::WORDS_AT) as usize)
+    let bytes = usize::from(reply[2]);
+    if (bytes != 2 * usize::from(words::word_at(request, modbus::WORDS_AT)))
         | (n != REPLY_LEAST + bytes)
     {
-        return Judgement::Refused(Refusal::ReplyMisfit);
+        return Err(Unread::Refused(Refusal::ReplyMisfit));
     }
-    asked
+    Ok(())
 }
 
-// The error code of an error reply.
-fn error(reply: &[u8]) -> Judgement
+// What an error reply says: its error code, where it has one.
+fn error(reply: &[u8]) -> Unread
     requires { 5 ≤ length reply.now }
     ensures { result ≡ error_of reply.now }
 {
     if reply.len() != REPLY_LEAST {
-        return Judgement::Refused(Refusal::ReplyMisfit);
+        return Unread::Refused(Refusal::ReplyMisfit);
     }
-    let code = reply[2];
-    match code {
-        1 => Judgement::Error(ErrorCode::Function),
-        2 => Judgement::Error(ErrorCode::Address),
-        3 => Judgement::Error(ErrorCode::Data),
-        _ => Judgement::Refused(Refusal::ReplyMisfit),
+    match ErrorCode::try_from(reply[2]) {
+        Ok(code) => Unread::Error(code),
+        Err(_) => Unread::Refused(Refusal::ReplyMisfit),
     }
 }

@@ -1,18 +1,11 @@
 -- The tests are the definition's own, in its order.
-use Rattle.std.proofs.Common.{◌≡◌, ℕ, List, sym, ap, ◌∙◌}
-use Rattle.directory.specs.declared.Span.{Span}
-use Rattle.directory.specs.declared.Span.TheVariants.{Items, Error}
+use Rattle.std.proofs.Common.{Ok, Err, sym, ap, ◌∙◌}
+use Rattle.std.proofs.lemmas.Result.{err_from_is_err_and}
 use Rattle.directory.specs.Views.{view_of}
-use Rattle.modbus.specs.Read.{read_in}
 use Rattle.modbus.proofs.Judged.{legal_read}
-use Rattle.replies.specs.declared.Judgement.{Judgement}
-use Rattle.replies.specs.declared.Judgement.TheVariants as judgement
-use Rattle.replies.specs.Judged.{on_items, reply_of, judged_in}
+use Rattle.replies.specs.Judged.{judged_in}
+use Rattle.replies.proofs.Judged.{passing, reply_passing, heard_judged}
 use Rattle.replies.proofs.judge.Goals as goal
-
--- how a read that asks for items goes on
-abbrev going : List ℕ → List ℕ → Span → Judgement
-going request reply span = on_items span (λ first count. reply_of request reply (judgement.Items first count))
 
 pub returns-then-not-within : goal.returns-then-not-within
 unfolding judged_in
@@ -22,24 +15,25 @@ pub returns-then-not-heard : goal.returns-then-not-heard
 unfolding judged_in
 returns-then-not-heard c = simp (sym c.within.ensures ∙ c.if-not-within.false, sym c.heard.ensures ∙ c.if-not-heard.true)
 
-pub read_in-span-requires : goal.read_in-span-requires
-read_in-span-requires c = c.requires
-
 pub returns-in_default : goal.returns-in_default
-unfolding judged_in
 returns-in_default c =
-    let passed : going c.args.request.now c.args.reply.now (read_in (view_of c.args.table.now c.args.reach) c.args.request.now) ≡ judged_in (view_of c.args.table.now c.args.reach) c.args.request.now c.args.reply.now c.args.ratios = simp (sym c.within.ensures ∙ c.if-not-within.false, sym c.heard.ensures ∙ c.if-not-heard.false) in
-    let f : read_in (view_of c.args.table.now c.args.reach) c.args.request.now ≡ Error _ = sym c.read_in-span.ensures ∙ c.in_default.is in
-    ap (going c.args.request.now c.args.reply.now) (sym f) ∙ passed
+    heard_judged _ _ c.args.reply.now _ (Err c.in_default.field-0) (sym c.within.ensures ∙ c.if-not-within.false) (sym c.heard.ensures ∙ c.if-not-heard.false) (sym c.read_in.ensures ∙ c.in_default.is)
 
 pub replied-requires : goal.replied-requires
 replied-requires c =
-    let found : read_in (view_of c.args.table.now c.args.reach) c.args.request.now ≡ Items c.in-Items.first c.in-Items.count = sym c.read_in-span.ensures ∙ c.in-Items.is in
-    (legal_read (view_of c.args.table.now c.args.reach) c.requires.good found).long
+    (legal_read (view_of c.args.table.now c.args.reach) c.requires.good (sym c.read_in.ensures ∙ c.in-Ok.is)).long
+
+pub returns-in_err-replied : goal.returns-in_err-replied
+returns-in_err-replied c =
+    let p = err_from_is_err_and c.from_residual.result c.from_residual.ensures.1 in
+    p.1
+    ∙ ap Err p.2
+    ∙ ap (passing c.in-Ok.asked) (sym c.in_err-replied.was ∙ c.replied.ensures)
+    ∙ reply_passing c.args.request.now c.args.reply.now tt c.in-Ok.asked
+    ∙ heard_judged _ _ c.args.reply.now _ (Ok c.in-Ok.asked) (sym c.within.ensures ∙ c.if-not-within.false) (sym c.heard.ensures ∙ c.if-not-heard.false) (sym c.read_in.ensures ∙ c.in-Ok.is)
 
 pub returns : goal.returns
-unfolding judged_in
 returns c =
-    let passed : going c.args.request.now c.args.reply.now (read_in (view_of c.args.table.now c.args.reach) c.args.request.now) ≡ judged_in (view_of c.args.table.now c.args.reach) c.args.request.now c.args.reply.now c.args.ratios = simp (sym c.within.ensures ∙ c.if-not-within.false, sym c.heard.ensures ∙ c.if-not-heard.false) in
-    let found : read_in (view_of c.args.table.now c.args.reach) c.args.request.now ≡ Items c.in-Items.first c.in-Items.count = sym c.read_in-span.ensures ∙ c.in-Items.is in
-    c.replied.ensures ∙ ap (going c.args.request.now c.args.reply.now) (sym found) ∙ passed
+    ap (passing c.in-Ok.asked) (sym c.in_ok-replied.was ∙ c.replied.ensures)
+    ∙ reply_passing c.args.request.now c.args.reply.now tt c.in-Ok.asked
+    ∙ heard_judged _ _ c.args.reply.now _ (Ok c.in-Ok.asked) (sym c.within.ensures ∙ c.if-not-within.false) (sym c.heard.ensures ∙ c.if-not-heard.false) (sym c.read_in.ensures ∙ c.in-Ok.is)

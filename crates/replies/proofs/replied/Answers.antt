@@ -1,6 +1,6 @@
 -- The tests are the definition's own, in its order.
 use lib.ListN.{length}
-use Rattle.std.proofs.Common.{◌≡◌, sym, ◌∙◌, arith, List, true, false, ◌||◌, ℕ, ◌≤◌}
+use Rattle.std.proofs.Common.{◌≡◌, Err, ap, sym, ◌∙◌, arith, List, true, false, ◌||◌, ℕ, ◌≤◌}
 use lib.Dec.{ltb}
 use borrow.Author.Tests.{eq-eqb, ne_eqb, ltb-false}
 use Rattle.crc.specs.Crc.{intact}
@@ -16,13 +16,13 @@ long reply h = ltb-false (length reply) 5 (neither (ltb (length reply) 5) (ltb 2
 pub returns-then-n : goal.returns-then-n
 returns-then-n c =
     let a = c.args in
-    length_refused a.request.now a.reply.now a.asked
+    length_refused a.request.now a.reply.now tt
     c.if-n.true
 
 pub returns-then-not-intact : goal.returns-then-not-intact
 returns-then-not-intact c =
     let a = c.args in
-    crc_refused a.request.now a.reply.now a.asked
+    crc_refused a.request.now a.reply.now tt
     c.if-n.false (sym c.intact.ensures ∙ c.if-not-intact.true)
 
 pub bounds-reply-1 : goal.bounds-reply-1
@@ -39,7 +39,7 @@ returns-then-reply-request c =
     let right_length : length_wrong c.args.reply.now ≡ false = c.if-n.false in
     let whole : intact c.args.reply.now ≡ true = sym c.intact.ensures ∙ c.if-not-intact.false in
     let a = c.args in
-    foreign_refused a.request.now a.reply.now a.asked right_length whole c.if-reply-request.true
+    foreign_refused a.request.now a.reply.now tt right_length whole c.if-reply-request.true
 
 pub error-requires : goal.error-requires
 error-requires c = long c.args.reply.now c.if-n.false
@@ -49,36 +49,33 @@ returns-then-function c =
     let right_length : length_wrong c.args.reply.now ≡ false = c.if-n.false in
     let whole : intact c.args.reply.now ≡ true = sym c.intact.ensures ∙ c.if-not-intact.false in
     let a = c.args in
-    c.error.ensures
-    ∙ error_given a.request.now a.reply.now a.asked
+    ap Err c.error.ensures
+    ∙ error_given a.request.now a.reply.now tt
     right_length whole c.if-reply-request.false (eq-eqb _ _ c.if-function.true)
 
 pub bounds-reply-2 : goal.bounds-reply-2
 bounds-reply-2 c = omega (arith, long c.args.reply.now c.if-n.false)
 
-pub overflow_cast-bytes : goal.overflow_cast-bytes
-overflow_cast-bytes c = omega (arith, c.shared_slice_known-6-1.given 2)
-
 pub word_at-requires : goal.word_at-requires
 word_at-requires c = omega (arith, c.requires)
 
 pub overflow_add-bytes : goal.overflow_add-bytes
-overflow_add-bytes c = omega (arith, c.shared_slice_known-6-1.given 2)
+overflow_add-bytes c = omega (arith, c.from-bytes.ensures, c.type_inv.reply 2)
 
-pub returns-then-bytes-word_at : goal.returns-then-bytes-word_at
-returns-then-bytes-word_at c =
+pub returns-then-bytes-from : goal.returns-then-bytes-from
+returns-then-bytes-from c =
     let right_length : length_wrong c.args.reply.now ≡ false = c.if-n.false in
     let whole : intact c.args.reply.now ≡ true = sym c.intact.ensures ∙ c.if-not-intact.false in
     let a = c.args in
-    misfit_refused a.request.now a.reply.now a.asked
+    misfit_refused a.request.now a.reply.now tt
     right_length whole c.if-reply-request.false (ne_eqb _ _ c.if-function.false)
-    (misfit_read a.request.now a.reply.now _ true c.word_at.ensures c.if-bytes-word_at.true)
+    (misfit_read a.request.now a.reply.now _ true (c.from.ensures ∙ c.word_at.ensures) (rw c.from-bytes.ensures at c.if-bytes-from.true))
 
 pub returns : goal.returns
 returns c =
     let right_length : length_wrong c.args.reply.now ≡ false = c.if-n.false in
     let whole : intact c.args.reply.now ≡ true = sym c.intact.ensures ∙ c.if-not-intact.false in
     let a = c.args in
-    data_given a.request.now a.reply.now a.asked
+    data_given a.request.now a.reply.now tt
     right_length whole c.if-reply-request.false (ne_eqb _ _ c.if-function.false)
-    (misfit_read a.request.now a.reply.now _ false c.word_at.ensures c.if-bytes-word_at.false)
+    (misfit_read a.request.now a.reply.now _ false (c.from.ensures ∙ c.word_at.ensures) (rw c.from-bytes.ensures at c.if-bytes-from.false))

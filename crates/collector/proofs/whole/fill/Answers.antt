@@ -1,6 +1,6 @@
 -- The tests are the definition's own; what is laid out in the rows was read from the items in turn.
 use lib.ListN.{length, take, replicate, length-map}
-use Rattle.std.proofs.Common.{◌≡◌, sym, ap, ap₂, subst, ◌∙◌, arith, true, false, ◌||◌, List, map, ℕ, ◌/◌, ◌≤◌}
+use Rattle.std.proofs.Common.{◌≡◌, sym, ap, ap₂, subst, ◌∙◌, arith, true, false, ◌||◌, List, map, ℕ, ◌/◌, ◌≤◌, Ok}
 use lib.Dec.{ltb}
 use lib.Seq.{sets}
 use borrow.Author.Tests.{not-true, not-false, ltb-false}
@@ -10,7 +10,6 @@ use Rattle.modbus.proofs.Frames.{neither}
 use Rattle.modbus.proofs.Stores.{sets_taken}
 use Rattle.reading.specs.Told.{kind_of}
 use Rattle.reading.specs.Cells.{cell_of}
-use Rattle.collector.specs.declared.whole.Whole.TheVariants.{Items}
 use Rattle.collector.specs.Collector.{item_of}
 use Rattle.collector.specs.Whole.{in_turn, any_thirteen, readings_in, Rows}
 use Rattle.collector.proofs.When.{item_possible}
@@ -67,7 +66,7 @@ returns c =
     let r = c.all_read.ensures in
     let filled = sym (all_filled (in_turn (length (items c.args.asked.now)) (item_of c.args.order c.args.tenths (items c.args.asked.now) c.args.reply.now)) c.args.values.now c.args.kinds.now roomy none) in
     record {
-      answers = ap Items count ∙ ap (λ (o : Rows). o.answer) filled;
+      answers = ap Ok count ∙ ap (λ (o : Rows). o.answer) filled;
       cells = c.lay.ensures.values_after ∙ ap (sets c.args.values.now 0) (laid (replicate 125 0) _ (map cell_of (readings_in (in_turn (length (items c.args.asked.now)) (item_of c.args.order c.args.tenths (items c.args.asked.now) c.args.reply.now)))) _ (r.cells_after all) (length-map (readings_in (in_turn (length (items c.args.asked.now)) (item_of c.args.order c.args.tenths (items c.args.asked.now) c.args.reply.now))) cell_of ∙ readings) few) ∙ ap (λ (o : Rows). o.values) filled;
       numbers = c.lay.ensures.kinds_after ∙ ap (sets c.args.kinds.now 0) (laid (replicate 125 0) _ (map kind_of (readings_in (in_turn (length (items c.args.asked.now)) (item_of c.args.order c.args.tenths (items c.args.asked.now) c.args.reply.now)))) _ (r.numbers_after all) (length-map (readings_in (in_turn (length (items c.args.asked.now)) (item_of c.args.order c.args.tenths (items c.args.asked.now) c.args.reply.now))) kind_of ∙ readings) few) ∙ ap (λ (o : Rows). o.kinds) filled;
     }
