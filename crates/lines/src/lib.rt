@@ -9,13 +9,6 @@ pub const LINE_FEED: u8 = 0x0A;
 
 const SPACE: u8 = 0x20;
 
-// What a line holds: a frame, with the number of its bytes that were put into the buffer, or no frame.
-#[derive(Clone, Copy)]
-pub enum Line {
-    Frame(usize),
-    Bad,
-}
-
 // Where the line that begins at `from` ends: at the next line feed, or with the input.
 #[tactic(auto, using(crate::proofs::Ends::ends))]
 pub fn line_end(input: &[u8], from: usize) -> usize
@@ -31,14 +24,15 @@ pub fn line_end(input: &[u8], from: usize) -> usize
     i
 }
 
-// Puts the frame that a line holds at the start of the buffer, as many of its bytes as there is room for. A bad line changes nothing.
-pub fn frame(line: &[u8], buffer: &mut [u8]) -> Line
+// Puts the frame that a line holds at the start of the buffer, as many of its bytes as there is room for, and answers how many these
+// are. A bad line changes nothing.
+pub fn frame(line: &[u8], buffer: &mut [u8]) -> Option<usize>
     ensures { FrameRead line.now buffer.old result buffer.new }
 {
     if line_ok(line) {
-        Line::Frame(put_bytes(line, buffer))
+        Some(put_bytes(line, buffer))
     } else {
-        Line::Bad
+        None
     }
 }
 
@@ -86,19 +80,19 @@ fn least(a: usize, b: usize) -> usize
 }
 
 // Puts bytes at the start of the buffer as hex pairs in capitals, and answers how many characters these are. Without room for
-// three characters a byte it changes nothing and answers 0.
-pub fn text(bytes: &[u8], buffer: &mut [u8]) -> usize
+// three characters a byte it changes nothing.
+pub fn text(bytes: &[u8], buffer: &mut [u8]) -> Option<usize>
     ensures { TextPut bytes.now buffer.old result buffer.new }
 {
     let n = bytes.len();
-    if n == 0 {
-        return 0;
-    }
     if buffer.len() / 3 < n {
-        return 0;
+        return None;
+    }
+    if n == 0 {
+        return Some(0);
     }
     put_text(bytes, buffer);
-    3 * n - 1
+    Some(3 * n - 1)
 }
 
 // The last byte is put after the loop: no space follows it.
