@@ -1,4 +1,5 @@
 -- The answers of a new meter and of a sample as picks by tests; and what is within limits stays so.
+use Rattle.std.specs.Prelude.{Ok, Err}
 use mathlib.Core.Path.{◌≡◌, refl, sym, ap, ◌∙◌}
 use mathlib.Core.Logic.{◌↔◌, ◌⊎◌, inl, inr}
 use mathlib.Core.Bool.{Bool, true, false, ◌&&◌, cond, and-true, not, and-eq-true_iff}
@@ -24,7 +25,6 @@ use Rattle.meter.specs.declared.energies.Energies.{Energies}
 use Rattle.meter.specs.declared.energies.Counters.{Counters}
 use Rattle.meter.specs.declared.given.Given.{Given}
 use Rattle.meter.specs.declared.groups.Setup.{Setup}
-use Rattle.meter.specs.declared.Answer.TheVariants.{Accepted, Refused}
 use Rattle.meter.specs.declared.Answered.{Answered}
 use Rattle.meter.specs.declared.Meter.{Meter}
 use Rattle.meter.specs.Samples.{in_force, sample_ok, no_sample}
@@ -51,17 +51,17 @@ module _ (m : Meter) (s : Sample) where
   unfolding after_of
   answer = picked (meter_ok m) (sample_ok (meter_t m) s) (meter_within_top (next_of m s)) m (next_of m s)
 
-unchanged : (a b c : Bool) (m n : Meter) (reason : Refusal) → (chosen a b c m n).answer ≡ Refused reason → (chosen a b c m n).meter ≡ m
+unchanged : (a b c : Bool) (m n : Meter) (reason : Refusal) → (chosen a b c m n).answer ≡ Err reason → (chosen a b c m n).meter ≡ m
 unchanged true true true m n reason h = not_accepted (sym h)
 unchanged true true false m n reason h = refl
 unchanged true false c m n reason h = refl
 unchanged false b c m n reason h = refl
 
-refused : (m : Meter) (s : Sample) (reason : Refusal) → (after_of m s).answer ≡ Refused reason → (after_of m s).meter ≡ m
+refused : (m : Meter) (s : Sample) (reason : Refusal) → (after_of m s).answer ≡ Err reason → (after_of m s).meter ≡ m
 unfolding after_of
 refused m s = unchanged (meter_ok m) (sample_ok (meter_t m) s) (meter_within_top (next_of m s)) m (next_of m s)
 
-accepted : (m : Meter) (s : Sample) → ((after_of m s).answer ≡ Accepted) ↔ ((meter_ok m ≡ true) × (sample_ok (meter_t m) s ≡ true) × (meter_within_top (next_of m s) ≡ true))
+accepted : (m : Meter) (s : Sample) → ((after_of m s).answer ≡ Ok tt) ↔ ((meter_ok m ≡ true) × (sample_ok (meter_t m) s ≡ true) × (meter_within_top (next_of m s) ≡ true))
 accepted m s = rw (answer m s) (none_fails _ _ _ (meter_ok m) (sample_ok (meter_t m) s) (meter_within_top (next_of m s)))
 
 sample_only : (m : Meter) (s : Sample) (n : ℕ) → answer_told (after_of m s).answer ≡ refused_by n → (n ≡ 1) ⊎ (n ≡ 5) ⊎ (n ≡ 6)
@@ -135,10 +135,10 @@ blank_within g = rw (blank_sample (t_of g.ratios), blank_average (t_of g.ratios)
 -- what follows from the three tests of a new meter, in their order
 abbrev made : Bool → Bool → Bool → Meter → Answered
 made x y z m =
-    cond (not x) (answer_with (Refused RatioOutOfLimits) m)
-    (cond y (answer_with (Refused OwnAddressZero) m)
-    (cond z (answer_with (Refused MeterOutOfLimits) m)
-    (answer_with Accepted m)))
+    cond (not x) (answer_with (Err RatioOutOfLimits) m)
+    (cond y (answer_with (Err OwnAddressZero) m)
+    (cond z (answer_with (Err MeterOutOfLimits) m)
+    (answer_with (Ok tt) m)))
 
 new_picked : (x y z : Bool) (m : Meter) → (made x y z m).answer ≡ first_of RatioOutOfLimits OwnAddressZero MeterOutOfLimits x (not y) (not z)
 new_picked true true z m = refl
@@ -183,13 +183,13 @@ module _ (g : Given) where
   unfolding new_of
   new_blank = new_same ratios (eqb g.address 0) (eqb g.second g.address) (blank_of g)
 
-  four : ((new_of g).answer ≡ Refused OwnAddressZero) ↔ ((ratios ≡ true) × (g.address ≡ 0))
+  four : ((new_of g).answer ≡ Err OwnAddressZero) ↔ ((ratios ≡ true) × (g.address ≡ 0))
   four =
       let f = second_fails _ _ _ refl refl refl ratios some other_one in
       let z = same_is g.address 0 in
       rw new_answer (λ h. ((f.0 h).0, z.0 (f.0 h).1), λ h. f.1 (h.0, z.1 h.1))
 
-  one : ((new_of g).answer ≡ Refused MeterOutOfLimits) ↔ ((ratios ≡ true) × (g.address ≡ 0 → ⊥) × (g.second ≡ g.address))
+  one : ((new_of g).answer ≡ Err MeterOutOfLimits) ↔ ((ratios ≡ true) × (g.address ≡ 0 → ⊥) × (g.second ≡ g.address))
   one =
       let f = third_fails _ _ _ refl refl refl ratios some other_one in
       let z = same_no g.address 0 in
@@ -205,16 +205,16 @@ module _ (g : Given) where
       by (inr (inr e)) = inr (inr e.1)
 
   -- no test fails
-  new_made : ((new_of g).answer ≡ Accepted) ↔ ((ratios ≡ true) × (some ≡ true) × (other_one ≡ true))
+  new_made : ((new_of g).answer ≡ Ok tt) ↔ ((ratios ≡ true) × (some ≡ true) × (other_one ≡ true))
   new_made = rw new_answer (none_fails RatioOutOfLimits OwnAddressZero MeterOutOfLimits ratios some other_one)
 
-  new_accepted : ((new_of g).answer ≡ Accepted) ↔ ((ratios ≡ true) × (g.address ≡ 0 → ⊥) × (g.second ≡ g.address → ⊥))
+  new_accepted : ((new_of g).answer ≡ Ok tt) ↔ ((ratios ≡ true) × (g.address ≡ 0 → ⊥) × (g.second ≡ g.address → ⊥))
   new_accepted =
       let z = same_no g.address 0 in
       let e = same_no g.second g.address in
       (λ h. let t = new_made.0 h in (t.0, z.0 t.1, e.0 t.2), λ h. new_made.1 (h.0, z.1 h.1, e.1 h.2))
 
-  new_within : ((new_of g).answer ≡ Accepted) ↔ (meter_ok (blank_of g) ≡ true)
+  new_within : ((new_of g).answer ≡ Ok tt) ↔ (meter_ok (blank_of g) ≡ true)
   new_within =
       rw (blank_within g) (
         λ h. let t = new_made.0 h in (λ i. (sym (zero_no g.address) ∙ t.1) i && t.2 i && t.0 i),
@@ -225,7 +225,7 @@ module _ (g : Given) where
       )
 
   -- an accepted meter is within limits
-  pub made_within : (new_of g).answer ≡ Accepted → meter_ok (new_of g).meter ≡ true
+  pub made_within : (new_of g).answer ≡ Ok tt → meter_ok (new_of g).meter ≡ true
   made_within made = ap meter_ok new_blank ∙ new_within.0 made
 
   pub new_answers : NewAnswers g

@@ -1,6 +1,6 @@
 -- Paper 01, "Refusal numbers": 3, 4 and 1 of a new meter; 1, 5 and 6 of a sample; each given exactly when its row says. And what setup
 -- words have to do with samples: nothing, but for 0x200a and request 1's figures.
-use Rattle.std.specs.Prelude.{◌≡◌, ◌↔◌, ◌⊎◌, ℕ, true, false, List, ◌∷◌, ◌++◌, replicate}
+use Rattle.std.specs.Prelude.{◌≡◌, ◌↔◌, ◌⊎◌, ℕ, true, false, List, ◌∷◌, ◌++◌, replicate, Ok, Err}
 use Rattle.refusal.specs.declared.Refusal.{Refusal}
 use Rattle.refusal.specs.Numbers.{refused_by}
 use Rattle.ratio.specs.Ratios.{ratios_ok}
@@ -8,7 +8,6 @@ use Rattle.average.specs.declared.Average.{Average}
 use Rattle.meter.specs.declared.samples.Sample.{Sample}
 use Rattle.meter.specs.declared.given.Given.{Given}
 use Rattle.meter.specs.declared.groups.Setup.{Setup}
-use Rattle.meter.specs.declared.Answer.TheVariants.{Accepted, Refused}
 use Rattle.meter.specs.declared.Meter.{Meter}
 use Rattle.meter.specs.Samples.{sample_ok, no_sample}
 use Rattle.meter.specs.Groups.{setup_ok, no_setup, code_of, with_standard}
@@ -30,9 +29,9 @@ module _ (g : Given) where
     pub row_1 : NewGives (refused_by 1) ↔ ((ratios_ok g.ratios ≡ true) × (g.address ≡ 0 → ⊥) × (g.second ≡ g.address))
     pub only : (n : ℕ) → NewGives (refused_by n) → (n ≡ 3) ⊎ (n ≡ 4) ⊎ (n ≡ 1)
     pub accepted :
-        ((new_of g).answer ≡ Accepted) ↔ ((ratios_ok g.ratios ≡ true) × (g.address ≡ 0 → ⊥) × (g.second ≡ g.address → ⊥))
+        ((new_of g).answer ≡ Ok tt) ↔ ((ratios_ok g.ratios ≡ true) × (g.address ≡ 0 → ⊥) × (g.second ≡ g.address → ⊥))
     pub blank : (new_of g).meter ≡ blank_of g
-    pub within : ((new_of g).answer ≡ Accepted) ↔ (meter_ok (blank_of g) ≡ true)
+    pub within : ((new_of g).answer ≡ Ok tt) ↔ (meter_ok (blank_of g) ≡ true)
 
 -- STATEMENT: a record is out of limits whose own address is 0, or whose second address equals it (request 3), whatever else it holds
 pub record AddressLimits (m : Meter) : Type 0 where
@@ -59,10 +58,10 @@ module _ (m : Meter) (s : Sample) where
         SampleGives (refused_by 6) ↔ ((meter_ok m ≡ true) × (sample_ok (meter_t m) s ≡ true) × (meter_within_top (next_of m s) ≡ false))
     pub only : (n : ℕ) → SampleGives (refused_by n) → (n ≡ 1) ⊎ (n ≡ 5) ⊎ (n ≡ 6)
     pub accepted :
-        ((after_of m s).answer ≡ Accepted) ↔
+        ((after_of m s).answer ≡ Ok tt) ↔
         ((meter_ok m ≡ true) × (sample_ok (meter_t m) s ≡ true) × (meter_within_top (next_of m s) ≡ true))
-    pub refused : (reason : Refusal) → (after_of m s).answer ≡ Refused reason → (after_of m s).meter ≡ m
-    pub counted : (after_of m s).answer ≡ Accepted → (after_of m s).meter ≡ next_of m s
+    pub refused : (reason : Refusal) → (after_of m s).answer ≡ Err reason → (after_of m s).meter ≡ m
+    pub counted : (after_of m s).answer ≡ Ok tt → (after_of m s).meter ≡ next_of m s
 
   -- STATEMENT: setup words are kept, and of them only 0x200a, the code of the window, has an effect on a sample. With others in range
   -- and the same code, answer and measurements are the same; with any code, and whatever the figures of request 1, answer and

@@ -1,10 +1,9 @@
 -- Paper 01, "The meter's record": a sample covers one second. Paper 02, request 1: it joins the open window.
-use Rattle.std.specs.Prelude.{Bool, not, cond}
+use Rattle.std.specs.Prelude.{Bool, not, cond, Ok, Err}
 use Rattle.refusal.specs.declared.Refusal.TheVariants.{MeterOutOfLimits, SampleOutOfLimits, EnergyPastTop}
 use Rattle.average.specs.Windows.{after_second}
 use Rattle.meter.specs.declared.samples.Sample.{Sample}
 use Rattle.meter.specs.declared.Meter.{Meter}
-use Rattle.meter.specs.declared.Answer.TheVariants.{Accepted, Refused}
 use Rattle.meter.specs.declared.Answered.{Answered}
 use Rattle.meter.specs.Samples.{in_force, sample_ok}
 use Rattle.meter.specs.Energies.{with_powers, counters_within_top}
@@ -26,9 +25,9 @@ meter_within_top m = counters_within_top m.counters
 unfoldable pub after_of : Meter → Sample → Answered
 after_of m s =
     -- 1. meter record out of limits
-    cond (not (meter_ok m)) (answer_with (Refused MeterOutOfLimits) m)
+    cond (not (meter_ok m)) (answer_with (Err MeterOutOfLimits) m)
     -- 5. sample out of limits
-    (cond (not (sample_ok (meter_t m) s)) (answer_with (Refused SampleOutOfLimits) m)
+    (cond (not (sample_ok (meter_t m) s)) (answer_with (Err SampleOutOfLimits) m)
     -- 6. sample would carry an energy past its top
-    (cond (not (meter_within_top (next_of m s))) (answer_with (Refused EnergyPastTop) m)
-    (answer_with Accepted (next_of m s))))
+    (cond (not (meter_within_top (next_of m s))) (answer_with (Err EnergyPastTop) m)
+    (answer_with (Ok tt) (next_of m s))))

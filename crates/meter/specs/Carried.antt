@@ -1,10 +1,9 @@
 -- Paper 01, "The meter's record" and demand 3: what each sample adds to the four energies.
-use Rattle.std.specs.Prelude.{◌≡◌, ℕ, suc, Bool, true, false, cond, List, [], ◌∷◌, ℤ, pos, negsuc, ◌+ℤ◌, get_or}
+use Rattle.std.specs.Prelude.{◌≡◌, ℕ, suc, Bool, true, false, cond, List, [], ◌∷◌, ℤ, pos, negsuc, ◌+ℤ◌, get_or, Result, Ok, Err, ⊤}
+use Rattle.refusal.specs.declared.Refusal.{Refusal}
 use Rattle.signed.specs.Signs.{above_of, below_of}
 use Rattle.meter.specs.declared.samples.Powers.{Powers}
 use Rattle.meter.specs.declared.samples.Sample.{Sample}
-use Rattle.meter.specs.declared.Answer.{Answer}
-use Rattle.meter.specs.declared.Answer.TheVariants.{Accepted, Refused}
 use Rattle.meter.specs.declared.Meter.{Meter}
 use Rattle.meter.specs.Samples.{in_force}
 use Rattle.meter.specs.After.{after_of}
@@ -18,9 +17,9 @@ abbrev pub carries_for : ℕ → Sample → ℕ
 carries_for e s = get_or (carries_of s) e 0
 
 -- an answer is not a refusal
-abbrev pub is_accepted : Answer → Bool
-is_accepted Accepted = true
-is_accepted (Refused reason) = false
+abbrev pub is_accepted : Result ⊤ Refusal → Bool
+is_accepted (Ok done) = true
+is_accepted (Err reason) = false
 
 -- what a sample adds to an energy: what it carries if it is accepted, else nothing
 abbrev pub added_by : ℕ → Meter → Sample → ℕ

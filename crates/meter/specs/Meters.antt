@@ -1,6 +1,7 @@
 -- Paper 01, "The meter's record": the limits of a record, and a new meter. Paper 02: the record gains
 -- the figures of `average` (request 1), a second address (request 3) and an order of words (request 5).
-use Rattle.std.specs.Prelude.{ℕ, List, [], ◌∷◌, Bool, ◌&&◌, not, cond, leb, eqb, get_or}
+use Rattle.std.specs.Prelude.{ℕ, List, [], ◌∷◌, Bool, ◌&&◌, not, cond, leb, eqb, get_or, Result, Ok, Err, ⊤}
+use Rattle.refusal.specs.declared.Refusal.{Refusal}
 use Rattle.refusal.specs.declared.Refusal.TheVariants.{MeterOutOfLimits, RatioOutOfLimits, OwnAddressZero}
 use Rattle.refusal.specs.Numbers.{refusal_number, refused_by}
 use Rattle.words.specs.declared.Order.TheVariants.{LowerFirst}
@@ -14,8 +15,6 @@ use Rattle.meter.specs.declared.samples.Sample.{Sample}
 use Rattle.meter.specs.declared.given.Given.{Given}
 use Rattle.meter.specs.declared.groups.Setup.{Setup}
 use Rattle.meter.specs.declared.Meter.{Meter}
-use Rattle.meter.specs.declared.Answer.{Answer}
-use Rattle.meter.specs.declared.Answer.TheVariants.{Accepted, Refused}
 use Rattle.meter.specs.declared.Answered.{Answered}
 use Rattle.meter.specs.Energies.{no_energy, counters_ok, no_counters}
 use Rattle.meter.specs.Samples.{sample_ok, no_sample}
@@ -90,21 +89,21 @@ abbrev pub set_up_of : Meter → Setup → Meter
 set_up_of m setup = with_setup (with_average m (recoded_by (code_of m.setup) (code_of setup) m.average)) setup
 
 -- an answer in numbers: 0 for accepted; the number of the refusal
-abbrev pub answer_told : Answer → List ℕ
-answer_told Accepted = 0 ∷ []
-answer_told (Refused reason) = refused_by (refusal_number reason)
+abbrev pub answer_told : Result ⊤ Refusal → List ℕ
+answer_told (Ok done) = 0 ∷ []
+answer_told (Err reason) = refused_by (refusal_number reason)
 
 -- an answer, and the record beside it
-abbrev pub answer_with : Answer → Meter → Answered
+abbrev pub answer_with : Result ⊤ Refusal → Meter → Answered
 answer_with answer m = record { answer = answer; meter = m }
 
 -- a new meter, the first that applies; one that is refused is handed back out of limits, so that every later call refuses it
 unfoldable pub new_of : Given → Answered
 new_of given =
     -- 3. KTA or KTV out of limits
-    cond (not (ratios_ok given.ratios)) (answer_with (Refused RatioOutOfLimits) (blank_of given))
+    cond (not (ratios_ok given.ratios)) (answer_with (Err RatioOutOfLimits) (blank_of given))
     -- 4. own address 0
-    (cond (eqb given.address 0) (answer_with (Refused OwnAddressZero) (blank_of given))
+    (cond (eqb given.address 0) (answer_with (Err OwnAddressZero) (blank_of given))
     -- 1. equal addresses (request 3)
-    (cond (eqb given.second given.address) (answer_with (Refused MeterOutOfLimits) (blank_of given))
-    (answer_with Accepted (blank_of given))))
+    (cond (eqb given.second given.address) (answer_with (Err MeterOutOfLimits) (blank_of given))
+    (answer_with (Ok tt) (blank_of given))))

@@ -6,8 +6,7 @@ pub mod given;
 pub mod groups;
 pub mod samples;
 
-ghost use Rattle.std.specs.Prelude.{◌≡◌, true};
-ghost use Rattle.meter.specs.declared.Answer.TheVariants.{Refused};
+ghost use Rattle.std.specs.Prelude.{◌≡◌, true, Err};
 ghost use Rattle.meter.specs.Samples.{sample_ok};
 ghost use Rattle.meter.specs.Meters.{meter_t, meter_ok, given_of, blank_of, set_up_of, answer_with, new_of};
 ghost use Rattle.meter.specs.After.{next_of, after_of};
@@ -31,17 +30,11 @@ pub struct Meter {
     pub setup: Setup,
 }
 
-// The answer to a new meter or to a sample.
-#[derive(Clone, Copy)]
-pub enum Answer {
-    Accepted,
-    Refused(Refusal),
-}
-
-// An answer, and the meter after the call.
+// The answer to a new meter or to a sample, and the meter after the call.
+// Stays a struct: `after` hands back the next meter by value, a refused one too, and a refused new meter hands back its record.
 #[derive(Clone, Copy)]
 pub struct Answered {
-    pub answer: Answer,
+    pub answer: Result<(), Refusal>,
     pub meter: Meter,
 }
 
@@ -89,7 +82,7 @@ impl Meter {
             return meter.refused(Refusal::MeterOutOfLimits);
         }
         Answered {
-            answer: Answer::Accepted,
+            answer: Ok(()),
             meter,
         }
     }
@@ -108,10 +101,10 @@ impl Meter {
     }
 
     fn refused(self, reason: Refusal) -> Answered
-        ensures { result ≡ answer_with (Refused reason) self }
+        ensures { result ≡ answer_with (Err reason) self }
     {
         Answered {
-            answer: Answer::Refused(reason),
+            answer: Err(reason),
             meter: self,
         }
     }
@@ -143,7 +136,7 @@ impl Meter {
             return self.refused(Refusal::EnergyPastTop);
         }
         Answered {
-            answer: Answer::Accepted,
+            answer: Ok(()),
             meter: next,
         }
     }

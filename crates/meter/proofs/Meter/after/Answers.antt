@@ -1,6 +1,5 @@
 -- Each return has its tests behind it, and a law of the definition for them.
-use Rattle.std.proofs.Common.{◌≡◌, sym, ap, ◌∙◌, true, ℕ}
-use Rattle.meter.specs.declared.Answer.TheVariants.{Accepted}
+use Rattle.std.proofs.Common.{◌≡◌, sym, ap, ◌∙◌, true, ℕ, Ok}
 use Rattle.meter.specs.Samples.{sample_ok}
 use Rattle.meter.specs.Meters.{meter_t, meter_ok, answer_with}
 use Rattle.meter.specs.After.{meter_within_top}
@@ -33,4 +32,4 @@ returns c =
     let in_limits : meter_ok c.args.self ≡ true = sym c.within.ensures ∙ c.if-not-within.false in
     let sample_in : sample_ok (meter_t c.args.self) c.args.sample ≡ true = sym (c.within-2.ensures ∙ ap (λ (t : ℕ). sample_ok t c.args.sample) c.tenths.ensures) ∙ c.if-not-within-2.false in
     let accepted = after_accepted c.args.self c.args.sample in_limits sample_in (sym (c.within_top.ensures ∙ ap meter_within_top c.counted-next.ensures) ∙ c.if-not-within_top.false) in
-    ap (answer_with Accepted) c.counted-next.ensures ∙ sym accepted
+    ap (answer_with (Ok tt)) c.counted-next.ensures ∙ sym accepted
