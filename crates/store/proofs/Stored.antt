@@ -1,57 +1,57 @@
 -- A write, test by test.
-use mathlib.Core.Path.{◌≡◌, refl, ap, ◌∙◌}
-use mathlib.Core.Bool.{Bool, true, false}
+use mathlib.Core.Path.{◌≡◌, refl, ◌∙◌}
+use mathlib.Core.Bool.{Bool, true, false, cond}
 use mathlib.Core.List.{List}
 use Prim.Native.Nat.{ℕ}
-use borrow.Author.Tests.{eq-eqb, ne_eqb, eqb-true}
+use native.Mathlib.Omega.{arith}
+use lib.Dec.{eqb}
+use Rattle.std.proofs.Common.{Result, Ok, Err}
+use Rattle.refusal.specs.declared.ErrorCode.{ErrorCode}
 use Rattle.refusal.specs.declared.ErrorCode.TheVariants.{Address, Data}
 use Rattle.setup.specs.Ranges.{group_ok}
 use Rattle.modbus.specs.Frame.{start_of, word_number, write_values, write_shaped}
 use Rattle.meter.specs.declared.Meter.{Meter}
-use Rattle.meter.specs.Groups.{with_standard, with_output}
-use Rattle.meter.specs.Meters.{set_up_of}
-use Rattle.store.specs.declared.Verdict.TheVariants.{Good}
-use Rattle.store.specs.Writes.{to_standard, to_output, wrong_of, written_of}
+use Rattle.store.specs.Writes.{to_standard, to_output, to_group, group_words, stored_of, written_of}
 
 module _ (m : Meter) (frame : List ℕ) where
-  pub misshaped : write_shaped frame ≡ false → wrong_of m Data ≡ written_of m frame
+  pub misshaped : write_shaped frame ≡ false → Err Data ≡ written_of m frame
   unfolding written_of
   misshaped h = rw h refl
 
-  pub nowhere : write_shaped frame ≡ true → to_standard frame ≡ false → to_output frame ≡ false → wrong_of m Address ≡ written_of m frame
+  pub nowhere : write_shaped frame ≡ true → to_standard frame ≡ false → to_output frame ≡ false → Err Address ≡ written_of m frame
   unfolding written_of
   nowhere h s o = rw (h, s, o) refl
 
-  -- to 0x2000
-  module _ (h : write_shaped frame ≡ true) (s : to_standard frame ≡ true) where
-    group_at : {b : Bool} → group_ok 0x2000 (write_values frame) ≡ b → group_ok (start_of frame) (write_values frame) ≡ b
-    group_at g = ap (λ (a : ℕ). group_ok a (write_values frame)) (eqb-true _ _ s) ∙ g
+  -- the words of a write to a group of so many
+  abbrev taken : ℕ → Result (List ℕ) ErrorCode
+  taken words = cond (eqb (word_number frame) words) (Ok (write_values frame)) (Err Data)
 
-    pub not_16 : (word_number frame ≡ 16 → ⊥) → wrong_of m Data ≡ written_of m frame
+  -- to a group, of so many words from an address on
+  module _ (words address : ℕ) (h : write_shaped frame ≡ true) (t : to_group frame ≡ true) (n : group_words frame ≡ words) (a : start_of frame ≡ address) where
+    pub misfit : (code : ErrorCode) → Err code ≡ taken words → Err code ≡ written_of m frame
     unfolding written_of
-    not_16 n = rw (h, s, ne_eqb (word_number frame) 16 n) refl
+    misfit code e = by (eqb (word_number frame) words) refl e
+      where
+        by : (b : Bool) → eqb (word_number frame) words ≡ b → Err code ≡ cond b (Ok (write_values frame)) (Err Data) → Err code ≡ written_of m frame
+        by true w e = let z : ◌≡◌ {A = ℕ} 0 1 = cc in absurd (omega (arith, z))
+        by false w e = let same : code ≡ Data = cc in rw (same, h, t, n, w) refl
 
-    pub bad_16 : word_number frame ≡ 16 → group_ok 0x2000 (write_values frame) ≡ false → wrong_of m Data ≡ written_of m frame
-    unfolding written_of
-    bad_16 n g = rw (h, s, eq-eqb (word_number frame) 16 n, group_at g) refl
+    -- with its values, as they are in range or not
+    module _ (group : List ℕ) (e : Ok group ≡ taken words) where
+      pub fits : (eqb (word_number frame) words ≡ true) × (group ≡ write_values frame)
+      fits = by (eqb (word_number frame) words) e
+        where
+          by : (b : Bool) → Ok group ≡ cond b (Ok (write_values frame)) (Err Data) → (b ≡ true) × (group ≡ write_values frame)
+          by true e = (refl, cc)
+          by false e = let z : ◌≡◌ {A = ℕ} 0 1 = cc in absurd (omega (arith, z))
 
-    pub good_16 : word_number frame ≡ 16 → group_ok 0x2000 (write_values frame) ≡ true → record { verdict = Good; meter = set_up_of m (with_standard m.setup (write_values frame)) } ≡ written_of m frame
-    unfolding written_of
-    good_16 n g = rw (h, s, eq-eqb (word_number frame) 16 n, group_at g) refl
+      range : group_ok (start_of frame) (write_values frame) ≡ group_ok address group
+      range = rw (a, fits.1) refl
 
-  -- to 0x2200
-  module _ (h : write_shaped frame ≡ true) (s : to_standard frame ≡ false) (o : to_output frame ≡ true) where
-    output_at : {b : Bool} → group_ok 0x2200 (write_values frame) ≡ b → group_ok (start_of frame) (write_values frame) ≡ b
-    output_at g = ap (λ (a : ℕ). group_ok a (write_values frame)) (eqb-true _ _ o) ∙ g
+      pub bad : group_ok address group ≡ false → Err Data ≡ written_of m frame
+      unfolding written_of
+      bad g = rw (h, t, n, fits.0, range ∙ g) refl
 
-    pub not_24 : (word_number frame ≡ 24 → ⊥) → wrong_of m Data ≡ written_of m frame
-    unfolding written_of
-    not_24 n = rw (h, s, o, ne_eqb (word_number frame) 24 n) refl
-
-    pub bad_24 : word_number frame ≡ 24 → group_ok 0x2200 (write_values frame) ≡ false → wrong_of m Data ≡ written_of m frame
-    unfolding written_of
-    bad_24 n g = rw (h, s, o, eq-eqb (word_number frame) 24 n, output_at g) refl
-
-    pub good_24 : word_number frame ≡ 24 → group_ok 0x2200 (write_values frame) ≡ true → record { verdict = Good; meter = set_up_of m (with_output m.setup (write_values frame)) } ≡ written_of m frame
-    unfolding written_of
-    good_24 n g = rw (h, s, o, eq-eqb (word_number frame) 24 n, output_at g) refl
+      pub good : group_ok address group ≡ true → Ok (stored_of m frame) ≡ written_of m frame
+      unfolding written_of
+      good g = rw (h, t, n, fits.0, range ∙ g) refl

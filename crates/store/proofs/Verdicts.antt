@@ -7,6 +7,7 @@ use Prim.Native.Nat.{ℕ}
 use native.Mathlib.Omega.{arith}
 use lib.Dec.{eqb}
 use borrow.Author.Tests.{eqb-true}
+use Rattle.std.proofs.Common.{Option, Some, None, Result, Ok, Err}
 use Rattle.refusal.specs.declared.ErrorCode.{ErrorCode}
 use Rattle.refusal.specs.declared.ErrorCode.TheVariants.{Address, Data}
 use Rattle.refusal.specs.Numbers.{error_by}
@@ -18,52 +19,44 @@ use Rattle.meter.specs.Groups.{setup_ok}
 use Rattle.meter.specs.Meters.{meter_ok}
 use Rattle.meter.proofs.Parts.{meter_parts}
 use Rattle.meter.proofs.Accepts.{set_up_within}
-use Rattle.store.specs.declared.Verdict.{Verdict}
-use Rattle.store.specs.declared.Verdict.TheVariants.{Good, Wrong}
-use Rattle.store.specs.declared.Written.{Written}
-use Rattle.store.specs.Writes.{to_standard, to_output, group_words, replaced_in, stored_of, wrong_of, written_of, to_group, group_fits, verdict_told, WriteWhen}
+use Rattle.store.specs.Writes.{fault_of, verdict_told, left_by, to_standard, to_output, group_words, replaced_in, stored_of, written_of, to_group, group_fits, WriteWhen}
 
--- what the tests lead to: a shaped, p to a group, n its words, g its values; m is the meter, k the meter with it stored
-abbrev judged : Bool → Bool → Bool → Bool → Meter → Meter → Written
-judged a p n g m k =
-    cond (not a) (wrong_of m Data)
-    (cond (not p) (wrong_of m Address)
-    (cond (not n) (wrong_of m Data)
-    (cond (not g) (wrong_of m Data)
-    (record { verdict = Good; meter = k }))))
+-- what the tests lead to: a shaped, p to a group, n its words, g its values; k is the meter with it stored
+abbrev judged : Bool → Bool → Bool → Bool → Meter → Result Meter ErrorCode
+judged a p n g k = cond (not a) (Err Data) (cond (not p) (Err Address) (cond (not n) (Err Data) (cond (not g) (Err Data) (Ok k))))
 
 -- the numbers of a verdict give it back
-pub verdict_back : (a b : Verdict) → verdict_told a ≡ verdict_told b → a ≡ b
-verdict_back Good Good e = refl
-verdict_back Good (Wrong c) e = absurd (omega (arith, ap case_in e))
-verdict_back (Wrong c) Good e = absurd (omega (arith, ap case_in e))
-verdict_back (Wrong c) (Wrong d) e = ap Wrong (one_reason_each.errors c d (ap number_in e))
+pub verdict_back : (a b : Option ErrorCode) → verdict_told a ≡ verdict_told b → a ≡ b
+verdict_back None None e = refl
+verdict_back None (Some c) e = absurd (omega (arith, ap case_in e))
+verdict_back (Some c) None e = absurd (omega (arith, ap case_in e))
+verdict_back (Some c) (Some d) e = ap Some (one_reason_each.errors c d (ap number_in e))
 
-pub wrong_good : {A : Type 0} {code : ErrorCode} → Wrong code ≡ Good → A
+pub wrong_good : {A : Type 0} {code : ErrorCode} → ◌≡◌ {A = Option ErrorCode} (Some code) None → A
 wrong_good e = let z : ◌≡◌ {A = ℕ} 0 1 = cc in let y : ⊥ = omega arith in absurd y
 
 module _ (m k : Meter) where
   -- the same by three tests: f for words and values together
-  abbrev by_three : Bool → Bool → Bool → Written
-  by_three a p f = cond a (cond p (cond f (record { verdict = Good; meter = k }) (wrong_of m Data)) (wrong_of m Address)) (wrong_of m Data)
+  abbrev by_three : Bool → Bool → Bool → Result Meter ErrorCode
+  by_three a p f = cond a (cond p (cond f (Ok k) (Err Data)) (Err Address)) (Err Data)
 
-  three : (a p n g : Bool) → judged a p n g m k ≡ by_three a p (n && g)
+  three : (a p n g : Bool) → judged a p n g k ≡ by_three a p (n && g)
   three true true true true = refl
   three true true true false = refl
   three true true false g = refl
   three true false n g = refl
   three false p n g = refl
 
-  address_when : (a p f : Bool) → (verdict_told (by_three a p f).verdict ≡ error_by 2) ↔ ((a ≡ true) × (p ≡ false))
+  address_when : (a p f : Bool) → (verdict_told (fault_of (by_three a p f)) ≡ error_by 2) ↔ ((a ≡ true) × (p ≡ false))
   address_when true true true = (λ h. absurd (omega (arith, ap case_in h)), λ h. absurd (false≢true (sym h.1)))
   address_when true true false = (λ h. absurd (omega (arith, ap number_in h)), λ h. absurd (false≢true (sym h.1)))
   address_when true false f = (λ h. (refl, refl), λ h. refl)
   address_when false p f = (λ h. absurd (omega (arith, ap number_in h)), λ h. absurd (false≢true h.0))
 
-  data_when : (a p f : Bool) → (verdict_told (by_three a p f).verdict ≡ error_by 3) ↔ ((a ≡ false) ⊎ ((p ≡ true) × (f ≡ false)))
+  data_when : (a p f : Bool) → (verdict_told (fault_of (by_three a p f)) ≡ error_by 3) ↔ ((a ≡ false) ⊎ ((p ≡ true) × (f ≡ false)))
   data_when true true true = (λ h. absurd (omega (arith, ap case_in h)), no)
     where
-      no : ((true ≡ false) ⊎ ((true ≡ true) × (true ≡ false))) → verdict_told Good ≡ error_by 3
+      no : ((true ≡ false) ⊎ ((true ≡ true) × (true ≡ false))) → verdict_told None ≡ error_by 3
       no (inl h) = absurd (false≢true (sym h))
       no (inr h) = absurd (false≢true (sym h.1))
   data_when true true false = (λ h. inr (refl, refl), λ h. refl)
@@ -74,25 +67,25 @@ module _ (m k : Meter) where
       no (inr h) = absurd (false≢true h.0)
   data_when false p f = (λ h. inl refl, λ h. refl)
 
-  good_when : (a p f : Bool) → ((by_three a p f).verdict ≡ Good) ↔ ((a ≡ true) × (p ≡ true) × (f ≡ true))
+  good_when : (a p f : Bool) → (fault_of (by_three a p f) ≡ None) ↔ ((a ≡ true) × (p ≡ true) × (f ≡ true))
   good_when true true true = (λ h. (refl, refl, refl), λ h. refl)
   good_when true true false = (λ h. wrong_good h, λ h. absurd (false≢true h.2))
   good_when true false f = (λ h. wrong_good h, λ h. absurd (false≢true h.1))
   good_when false p f = (λ h. wrong_good h, λ h. absurd (false≢true h.0))
 
-  only_these : (a p f : Bool) (n : ℕ) → verdict_told (by_three a p f).verdict ≡ error_by n → (n ≡ 2) ⊎ (n ≡ 3)
+  only_these : (a p f : Bool) (n : ℕ) → verdict_told (fault_of (by_three a p f)) ≡ error_by n → (n ≡ 2) ⊎ (n ≡ 3)
   only_these true true true n h = absurd (omega (arith, ap case_in h))
   only_these true true false n h = inr (sym (ap number_in h))
   only_these true false f n h = inl (sym (ap number_in h))
   only_these false p f n h = inr (sym (ap number_in h))
 
-  keeps : (a p f : Bool) (code : ErrorCode) → (by_three a p f).verdict ≡ Wrong code → (by_three a p f).meter ≡ m
+  keeps : (a p f : Bool) (code : ErrorCode) → fault_of (by_three a p f) ≡ Some code → left_by m (by_three a p f) ≡ m
   keeps true true true code h = wrong_good (sym h)
   keeps true true false code h = refl
   keeps true false f code h = refl
   keeps false p f code h = refl
 
-  stores : (a p f : Bool) → (by_three a p f).verdict ≡ Good → (by_three a p f).meter ≡ k
+  stores : (a p f : Bool) → fault_of (by_three a p f) ≡ None → left_by m (by_three a p f) ≡ k
   stores true true true h = refl
   stores true true false h = wrong_good h
   stores true false f h = wrong_good h
@@ -135,12 +128,12 @@ module _ (m : Meter) (frame : List ℕ) (hm : meter_ok m ≡ true) (t : to_group
   stored_within : meter_ok (stored_of m frame) ≡ true
   stored_within = set_up_within m (replaced_in m.setup frame) hm (replaced_within (to_standard frame) refl)
 
-by_verdict : (m : Meter) (frame : List ℕ) → meter_ok m ≡ true → (v : Verdict) → (written_of m frame).verdict ≡ v → meter_ok (written_of m frame).meter ≡ true
-by_verdict m frame h (Wrong code) e = ap meter_ok ((write_when m frame).kept code e) ∙ h
-by_verdict m frame h Good e =
+by_verdict : (m : Meter) (frame : List ℕ) → meter_ok m ≡ true → (v : Option ErrorCode) → fault_of (written_of m frame) ≡ v → meter_ok (left_by m (written_of m frame)) ≡ true
+by_verdict m frame h (Some code) e = ap meter_ok ((write_when m frame).kept code e) ∙ h
+by_verdict m frame h None e =
     let l = (write_when m frame).legal.0 e in
     ap meter_ok ((write_when m frame).stored e) ∙ stored_within m frame h l.1 l.2
 
 -- a write keeps a record within limits
-pub write_within : (m : Meter) (frame : List ℕ) → meter_ok m ≡ true → meter_ok (written_of m frame).meter ≡ true
-write_within m frame h = by_verdict m frame h (written_of m frame).verdict refl
+pub write_within : (m : Meter) (frame : List ℕ) → meter_ok m ≡ true → meter_ok (left_by m (written_of m frame)) ≡ true
+write_within m frame h = by_verdict m frame h (fault_of (written_of m frame)) refl
