@@ -1,7 +1,15 @@
-// Frames that programs send to a meter, and what it answers, as they print it.
+// What programs ask a meter and a collector, and what they are answered, as they print it.
 #![tactic(auto)]
 
-use board::{Meter, Reply};
+mod exchange;
+mod heard;
+
+use board::{Answer, Given, Meter, Order, Ratios};
+use collector::Nameplate;
+pub use exchange::{Exchange, Items, Unread};
+pub use heard::{Heard, hear};
+use say::Bytes;
+use std::fmt::{self, Display};
 use std::io::{self, Stdout};
 
 pub const REPLY_ROOM: usize = 256;
@@ -9,49 +17,73 @@ pub const REPLY_ROOM: usize = 256;
 // A longer frame is told by its length. A reply of eight words is not.
 const SHORT: usize = 21;
 
+// The ratios of a meter without transformers.
+pub const DIRECT: Ratios = Ratios { kta: 1, ktv: 10 };
+
+// The paper's meters send the upper word first. This one has no second address.
+pub const GIVEN: Given = Given {
+    address: 1,
+    second: Given::NO_SECOND,
+    ratios: DIRECT,
+    order: Order::UpperFirst,
+};
+
+// What a collector is told of such a meter.
+pub const PLATE: Nameplate = Nameplate {
+    ratios: DIRECT,
+    order: Order::UpperFirst,
+};
+
+// A frame, byte for byte if it is short.
+#[derive(Clone, Copy)]
+struct Frame<'a>(&'a [u8]);
+
+impl<'a> Display for Frame<'a> {
+    fn fmt<W: fmt::Write>(&self, f: &mut fmt::Formatter<W>) -> fmt::Result {
+        if self.0.len() <= SHORT {
+            write!(f, "{}", Bytes(self.0))
+        } else {
+            write!(f, " with {} bytes", self.0.len())
+        }
+    }
+}
+
+// Whether a meter takes what it is given: a record, or a sample.
+#[derive(Clone, Copy)]
+pub struct Taken(pub Answer);
+
+impl Display for Taken {
+    fn fmt<W: fmt::Write>(&self, f: &mut fmt::Formatter<W>) -> fmt::Result {
+        match self.0 {
+            Answer::Accepted => f.write_str("accepted"),
+            Answer::Refused(reason) => write!(f, "{reason}"),
+        }
+    }
+}
+
 // A read of some words from a start on.
 pub fn read(address: u8, start: u16, words: u8) -> [u8; 8] {
-    let mut frame = [0u8; 8];
-    frame[0] = address;
-    frame[1] = 0x03;
-    frame[2] = (start / 256) as u8;
-    frame[3] = (start % 256) as u8;
-    frame[5] = words;
+    let mut frame = [address, 0x03, 0, 0, 0, 0, 0, 0];
+    frame[2..4].copy_from_slice(&start.to_be_bytes());
+    frame[4..6].copy_from_slice(&u16::from(words).to_be_bytes());
     crc::put(&mut frame, 6);
     frame
 }
 
+// A write of the 16 words from 0x2000 on, all 0 but the one at 0x2003 and the one at 0x200a, the window's code.
+pub fn write(address: u8, word: u8, code: u8) -> [u8; 41] {
+    let mut frame = [0; 41];
+    frame[..7].copy_from_slice(&[address, 0x10, 0x20, 0x00, 0x00, 16, 32]);
+    frame[14] = word;
+    frame[28] = code;
+    crc::put(&mut frame, 39);
+    frame
+}
+
 // A frame by its name, and what it is answered with. Hands back the meter after it.
-pub fn send(out: Stdout, m: Meter, name: &[u8], frame: &[u8]) -> io::Result<Meter> {
-    say::text(out, name)?;
-    told(out, b", asked", frame)?;
+pub fn send(out: Stdout, m: Meter, name: &str, frame: &[u8]) -> io::Result<Meter> {
     let mut buffer = [0u8; REPLY_ROOM];
-    let handled = board::handle(m, frame, &mut buffer);
-    let did = handled.reply;
-    let Reply::Sent(n) = did else {
-        unanswered(out, did)?;
-        return Ok(handled.meter);
-    };
-    told(out, b", answered", &buffer[..n])?;
-    say::end(out)?;
-    Ok(handled.meter)
-}
-
-fn told(out: Stdout, what: &[u8], bytes: &[u8]) -> io::Result<()> {
-    say::text(out, what)?;
-    if bytes.len() <= SHORT {
-        say::bytes(out, bytes)
-    } else {
-        say::sentence(out, b" with # bytes", &[bytes.len() as u64])
-    }
-}
-
-pub fn unanswered(out: Stdout, did: Reply) -> io::Result<()> {
-    if let Reply::Refused(reason) = did {
-        say::text(out, b", ")?;
-        say::refused(out, reason)?;
-    } else {
-        say::text(out, b", silent")?;
-    }
-    say::end(out)
+    let heard = hear(m, frame, &mut buffer);
+    println!(out; "{name}, asked{}{heard}", Frame(frame))?;
+    Ok(heard.meter)
 }

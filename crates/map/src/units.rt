@@ -1,72 +1,70 @@
-// The unit in which a quantity is sent: by its kind, and where the kind has several, by which it is.
+// The unit in which a quantity is sent, or its values: by its kind, and where the kind has several, by which it is.
 use directory::quantity::*;
-use std::io::{self, Stdout};
 
-pub fn of(out: Stdout, quantity: u16) -> io::Result<()> {
+pub fn of(quantity: u16) -> &'static str {
     let which = quantity % 64;
-    let kind = quantity - which;
-    let n = which as usize;
-    of_kind(out, (kind / 64) as usize)?;
-    match kind {
-        POWER => power(out, n),
-        SIGNED_POWER => say::name(out, b"W\nvar\nW\nW\nW\nvar\nvar\nvar\n", n),
-        LOW | HIGH => say::name(out, b"Wh\nWh\nvarh\nvarh\n", n),
-        FACTOR => say::name(out, b"hundredths, signed\nthousandths, signed\n", n),
-        PLAIN => plain(out, which),
-        _ => Ok(()),
+    match quantity - which {
+        VOLTAGE => "mV",
+        CURRENT => "mA",
+        POWER => power(which),
+        SIGNED_POWER => signed_power(which),
+        ENERGY_COUNT => "steps",
+        LOW => low(which),
+        HIGH => high(which),
+        WRAP => "10^8 steps",
+        FACTOR => factor(which),
+        SIGN => "0, or 1 if negative",
+        SECTOR => "0 to 2",
+        FREQUENCY => "0.1 Hz",
+        KTA => "whole",
+        KTV => "tenths",
+        SEQUENCE => "1 or 2",
+        _ => plain(which),
     }
 }
 
-// The kinds by their numbers, as in `names`. The line of a kind is empty where the unit goes by which alone.
-fn of_kind(out: Stdout, n: usize) -> io::Result<()> {
-    say::name(
-        out,
-        b"0\n\
-        mV\n\
-        mA\n\
-        \n\
-        \n\
-        steps\n\
-        \n\
-        10^6 \n\
-        10^8 steps\n\
-        \n\
-        0, or 1 if negative\n\
-        0 to 2\n\
-        0.1 Hz\n\
-        whole\n\
-        tenths\n\
-        1 or 2\n\
-        \n",
-        n,
-    )
+// P, Q and S go by the ratios, but for the S that is whole at any; average and peak go as P does.
+fn power(which: u16) -> &'static str {
+    match which {
+        Q | Q1 | Q2 | Q3 => "0.01 var or 1 var",
+        S => "0.01 VA or 1 VA",
+        WHOLE_S => "1 VA",
+        _ => "0.01 W or 1 W",
+    }
 }
 
-// P, Q and S go by the ratios, but for the S that is whole at any; average and peak go as P does.
-fn power(out: Stdout, n: usize) -> io::Result<()> {
-    say::name(
-        out,
-        b"0.01 W or 1 W\n\
-        0.01 var or 1 var\n\
-        0.01 W or 1 W\n\
-        0.01 W or 1 W\n\
-        0.01 W or 1 W\n\
-        0.01 var or 1 var\n\
-        0.01 var or 1 var\n\
-        0.01 var or 1 var\n\
-        0.01 VA or 1 VA\n\
-        1 VA\n\
-        0.01 W or 1 W\n\
-        0.01 W or 1 W\n",
-        n,
-    )
+fn signed_power(which: u16) -> &'static str {
+    match which {
+        Q | Q1 | Q2 | Q3 => "var",
+        _ => "W",
+    }
+}
+
+fn low(which: u16) -> &'static str {
+    match which {
+        POS_EA | NEG_EA => "Wh",
+        _ => "varh",
+    }
+}
+
+fn high(which: u16) -> &'static str {
+    match which {
+        POS_EA | NEG_EA => "10^6 Wh",
+        _ => "10^6 varh",
+    }
+}
+
+fn factor(which: u16) -> &'static str {
+    match which {
+        HUNDREDTHS => "hundredths, signed",
+        _ => "thousandths, signed",
+    }
 }
 
 // A plain word has no unit, but for the minutes.
-fn plain(out: Stdout, which: u16) -> io::Result<()> {
-    if which == MINUTES {
-        say::text(out, b"whole minutes")
-    } else {
-        say::text(out, b"none")
+fn plain(which: u16) -> &'static str {
+    match which {
+        MINUTES => "whole minutes",
+        _ => "none",
     }
 }

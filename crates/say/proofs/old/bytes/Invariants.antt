@@ -1,7 +1,7 @@
 -- Each turn leaves one byte fewer.
 use lib.ListN.{length}
 use Rattle.std.proofs.Common.{◌≤◌, ◌-◌}
-use Rattle.say.proofs.bytes.Given as goal
+use Rattle.say.proofs.old.bytes.Given as goal
 
 abbrev pub invariant-loop-i : goal.invariant-loop-i
 invariant-loop-i l = l.i ≤ length l.b

@@ -1,0 +1,52 @@
+// What a collector makes of a meter's reply.
+use collector::{Answer, ErrorCode, Nameplate, Quantity, Refusal, Whole};
+use std::fmt::{self, Display};
+
+// A request, the reply to it, and what the collector is told of the meter.
+#[derive(Clone, Copy)]
+pub struct Exchange<'a> {
+    pub request: &'a [u8],
+    pub reply: &'a [u8],
+    pub plate: Nameplate,
+}
+
+// Why an item is not read: the meter's error code, or a refusal.
+#[derive(Clone, Copy)]
+pub enum Unread {
+    Error(ErrorCode),
+    Refused(Refusal),
+}
+
+impl Display for Unread {
+    fn fmt<W: fmt::Write>(&self, f: &mut fmt::Formatter<W>) -> fmt::Result {
+        match self {
+            Unread::Error(code) => write!(f, "{code}"),
+            Unread::Refused(reason) => write!(f, "{reason}"),
+        }
+    }
+}
+
+impl<'a> Exchange<'a> {
+    // One item of the reply.
+    pub fn item(self, index: usize) -> Result<Quantity, Unread> {
+        match collector::read(self.request, self.reply, self.plate, index) {
+            Answer::Reading(quantity) => Ok(quantity),
+            Answer::Error(code) => Err(Unread::Error(code)),
+            Answer::Refused(reason) => Err(Unread::Refused(reason)),
+        }
+    }
+}
+
+// How many items a whole reply has, or why it is not read.
+#[derive(Clone, Copy)]
+pub struct Items(pub Whole);
+
+impl Display for Items {
+    fn fmt<W: fmt::Write>(&self, f: &mut fmt::Formatter<W>) -> fmt::Result {
+        match self.0 {
+            Whole::Items(n) => write!(f, "items {n}"),
+            Whole::Error(code) => write!(f, "{code}"),
+            Whole::Refused(reason) => write!(f, "{reason}"),
+        }
+    }
+}
