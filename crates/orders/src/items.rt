@@ -1,35 +1,34 @@
 // The first item of a reply, in words.
-use collector::{Answer, Nameplate, Quantity, Signed};
+use ask::Exchange;
+use collector::Quantity;
+use say::Told;
+use std::fmt::{self, Display};
 use std::io::{self, Stdout};
 
-pub fn read(out: Stdout, request: &[u8], reply: &[u8], plate: Nameplate) -> io::Result<()> {
-    let answer = collector::read(request, reply, plate, 0);
-    match answer {
-        Answer::Reading(quantity) => figure(out, quantity),
-        Answer::Error(code) => say::error(out, code),
-        Answer::Refused(reason) => say::refused(out, reason),
-    }
+pub fn read(out: Stdout, exchange: Exchange<'_>) -> io::Result<()> {
+    println!(out; "{}", Told(exchange.item(0).map(Figure)))
 }
 
 // The kinds that are asked for.
-fn figure(out: Stdout, quantity: Quantity) -> io::Result<()> {
-    match quantity {
-        Quantity::Voltage(mv) => say::sentence(out, b"# mV", &[mv as u64]),
-        Quantity::SignedPower(p) => signed(out, p),
-        Quantity::Energy { count, step: _, wh } => {
-            say::sentence(out, b"a count of #, # Wh", &[count.0 as u64, wh.0])
-        }
-        Quantity::Wrap(n) => say::sentence(out, b"a wrap of #", &[n as u64]),
-        Quantity::Frequency(f) => say::sentence(out, b"# tenths of Hz", &[f as u64]),
-        Quantity::Kta(n) => say::sentence(out, b"a KTA of #", &[n as u64]),
-        Quantity::Plain(n) => say::sentence(out, b"a plain word of #", &[n as u64]),
-        _ => say::text(out, b"another kind"),
-    }
-}
+#[derive(Clone, Copy)]
+struct Figure(Quantity);
 
-fn signed(out: Stdout, p: Signed) -> io::Result<()> {
-    if p.negative {
-        say::text(out, b"-")?;
+impl Display for Figure {
+    fn fmt<W: fmt::Write>(&self, f: &mut fmt::Formatter<W>) -> fmt::Result {
+        match self.0 {
+            Quantity::Voltage(mv) => write!(f, "{mv} mV"),
+            Quantity::SignedPower(p) => {
+                let sign = if p.negative { "-" } else { "" };
+                write!(f, "{sign}{} W", p.magnitude)
+            }
+            Quantity::Energy { count, step: _, wh } => {
+                write!(f, "a count of {}, {} Wh", count.0, wh.0)
+            }
+            Quantity::Wrap(n) => write!(f, "a wrap of {n}"),
+            Quantity::Frequency(n) => write!(f, "{n} tenths of Hz"),
+            Quantity::Kta(n) => write!(f, "a KTA of {n}"),
+            Quantity::Plain(n) => write!(f, "a plain word of {n}"),
+            _ => f.write_str("another kind"),
+        }
     }
-    say::sentence(out, b"# W", &[p.magnitude])
 }

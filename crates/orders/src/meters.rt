@@ -1,5 +1,6 @@
 // The meters that are read, after one sample, and what a collector is told of them.
-use board::{Given, Meter, Order, Powers, Ratios};
+use ask::{DIRECT, PLATE};
+use board::{Given, Meter, Order, Powers, Sample};
 use collector::Nameplate;
 
 // A meter's own address, and the one that a tenant reads it by.
@@ -7,23 +8,22 @@ pub const OWN: u8 = 1;
 
 pub const SECOND: u8 = 9;
 
-// Those of every meter here: an energy register counts steps of 10 Wh.
-fn ratios() -> Ratios {
-    Ratios { kta: 1, ktv: 10 }
-}
+// Both orders, in words.
+pub const ORDERS: [(Order, &str); 2] = [
+    (Order::UpperFirst, "upper word first"),
+    (Order::LowerFirst, "lower word first"),
+];
 
 pub fn plate(order: Order) -> Nameplate {
-    let ratios = ratios();
-    Nameplate { ratios, order }
+    Nameplate { order, ..PLATE }
 }
 
-// A meter that names its order, and a second address.
+// A meter that names its order, and a second address. An energy register counts steps of 10 Wh.
 pub fn named(order: Order) -> Meter {
-    let ratios = ratios();
     let made = Meter::of(Given {
         address: OWN,
         second: SECOND,
-        ratios,
+        ratios: DIRECT,
         order,
     });
     sampled(made.meter)
@@ -31,30 +31,29 @@ pub fn named(order: Order) -> Meter {
 
 // A meter that names neither.
 pub fn unnamed() -> Meter {
-    let made = Meter::new(OWN, ratios());
+    let made = Meter::new(OWN, DIRECT);
     sampled(made.meter)
 }
 
 // After the sample, 130 seconds into a window, with a +Ea whose Low and High take both words.
 fn sampled(new: Meter) -> Meter {
-    let p = Powers {
-        l1: -30_000,
-        l2: 0,
-        l3: 0,
-    };
-    let mut sample = new.latest;
-    sample.voltages = [100_000, 65_537, 0, 0, 0, 0];
-    sample.p = p;
-    sample.frequency = 500;
-    let answered = new.after(sample);
+    let answered = new.after(Sample {
+        voltages: [100_000, 65_537, 0, 0, 0, 0],
+        p: Powers {
+            l1: -30_000,
+            l2: 0,
+            l3: 0,
+        },
+        frequency: 500,
+        ..new.latest
+    });
     let mut m = answered.meter;
     m.average.window.seconds = 130;
     counted(m, 131_073_131_075)
 }
 
 // With this +Ea, in Wh.
-pub fn counted(m: Meter, wh: u64) -> Meter {
-    let mut next = m;
-    next.counters.active.positive.wh.0 = wh;
-    next
+pub fn counted(mut m: Meter, wh: u64) -> Meter {
+    m.counters.active.positive.wh.0 = wh;
+    m
 }

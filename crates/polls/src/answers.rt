@@ -1,88 +1,75 @@
 // What the collector makes of a reply, item by item and in words.
-use collector::{Answer, Count, Nameplate, Order, Quantity, Ratios, Signed, WattHours};
+use ask::Exchange;
+use collector::{Nameplate, Quantity, Signed};
+use say::Told;
+use std::fmt::{self, Display};
 use std::io::{self, Stdout};
 
-// What a collector is told of a meter that sends the upper word first, as the documents' meters do.
-pub fn plate(kta: u16, ktv: u16) -> Nameplate {
-    let ratios = Ratios { kta, ktv };
-    Nameplate {
-        ratios,
-        order: Order::UpperFirst,
-    }
+// A request, the reply to it, what the collector is told of the meter, and how many items are read.
+#[derive(Clone, Copy)]
+pub struct Poll {
+    pub name: &'static str,
+    pub request: &'static [u8],
+    pub reply: &'static [u8],
+    pub plate: Nameplate,
+    pub items: usize,
 }
 
-// The first items of a reply, a line each.
-pub fn read(
-    out: Stdout,
-    name: &[u8],
-    request: &[u8],
-    reply: &[u8],
-    told: Nameplate,
-    items: usize,
-) -> io::Result<()> {
-    let mut index: usize = 0;
-    while index < items {
-        item(out, name, request, reply, told, index)?;
-        index += 1;
-    }
-    Ok(())
-}
-
-fn item(
-    out: Stdout,
-    name: &[u8],
-    request: &[u8],
-    reply: &[u8],
-    told: Nameplate,
-    index: usize,
-) -> io::Result<()> {
-    say::text(out, name)?;
-    say::field(out, b", item ", index as u64)?;
-    say::text(out, b": ")?;
-    answer(out, collector::read(request, reply, told, index))?;
-    say::end(out)
-}
-
-fn answer(out: Stdout, a: Answer) -> io::Result<()> {
-    match a {
-        Answer::Reading(q) => quantity(out, q),
-        Answer::Error(code) => say::error(out, code),
-        Answer::Refused(r) => say::refused(out, r),
+impl Poll {
+    // The first items of the reply, a line each.
+    pub fn read(self, out: Stdout) -> io::Result<()> {
+        let Poll {
+            name,
+            request,
+            reply,
+            plate,
+            items,
+        } = self;
+        let exchange = Exchange {
+            request,
+            reply,
+            plate,
+        };
+        for index in 0..items {
+            let reading = Told(exchange.item(index).map(Figure));
+            println!(out; "{name}, item {index}: {reading}")?;
+        }
+        Ok(())
     }
 }
 
 // A reading behind its name and unit.
-fn quantity(out: Stdout, q: Quantity) -> io::Result<()> {
-    match q {
-        Quantity::Voltage(mv) => say::field(out, b"voltage in mV ", mv as u64),
-        Quantity::Current(ma) => say::field(out, b"current in mA ", ma as u64),
-        Quantity::Power(p) => say::field(out, b"power in hundredths ", p),
-        Quantity::SignedPower(p) => signed(out, b"signed power in whole units ", p),
-        Quantity::Energy { count, step, wh } => energy(out, count, step, wh),
-        Quantity::Low(n) => say::field(out, b"Low ", n as u64),
-        Quantity::High(n) => say::field(out, b"High ", n as u64),
-        Quantity::Wrap(n) => say::field(out, b"wrap ", n as u64),
-        Quantity::Factor(f) => signed(out, b"factor in thousandths ", f),
-        Quantity::Sign(n) => say::field(out, b"sign ", n as u64),
-        Quantity::Sector(n) => say::field(out, b"sector ", n as u64),
-        Quantity::Frequency(f) => say::field(out, b"frequency in tenths of Hz ", f as u64),
-        Quantity::Kta(n) => say::field(out, b"KTA ", n as u64),
-        Quantity::Ktv(n) => say::field(out, b"KTV in tenths ", n as u64),
-        Quantity::Sequence(n) => say::field(out, b"sequence ", n as u64),
-        Quantity::Plain(n) => say::field(out, b"plain word ", n as u64),
+#[derive(Clone, Copy)]
+struct Figure(Quantity);
+
+impl Display for Figure {
+    fn fmt<W: fmt::Write>(&self, f: &mut fmt::Formatter<W>) -> fmt::Result {
+        match self.0 {
+            Quantity::Voltage(mv) => write!(f, "voltage in mV {mv}"),
+            Quantity::Current(ma) => write!(f, "current in mA {ma}"),
+            Quantity::Power(p) => write!(f, "power in hundredths {p}"),
+            Quantity::SignedPower(p) => {
+                write!(f, "signed power in whole units {}{}", minus(p), p.magnitude)
+            }
+            Quantity::Energy { count, step, wh } => {
+                write!(f, "energy count {}, step {step}, Wh {}", count.0, wh.0)
+            }
+            Quantity::Low(n) => write!(f, "Low {n}"),
+            Quantity::High(n) => write!(f, "High {n}"),
+            Quantity::Wrap(n) => write!(f, "wrap {n}"),
+            Quantity::Factor(p) => write!(f, "factor in thousandths {}{}", minus(p), p.magnitude),
+            Quantity::Sign(n) => write!(f, "sign {n}"),
+            Quantity::Sector(n) => write!(f, "sector {n}"),
+            Quantity::Frequency(n) => write!(f, "frequency in tenths of Hz {n}"),
+            Quantity::Kta(n) => write!(f, "KTA {n}"),
+            Quantity::Ktv(n) => write!(f, "KTV in tenths {n}"),
+            Quantity::Sequence(n) => write!(f, "sequence {n}"),
+            Quantity::Plain(n) => write!(f, "plain word {n}"),
+        }
     }
 }
 
-fn energy(out: Stdout, count: Count, step: u32, wh: WattHours) -> io::Result<()> {
-    say::field(out, b"energy count ", count.0 as u64)?;
-    say::field(out, b", step ", step as u64)?;
-    say::field(out, b", Wh ", wh.0)
-}
-
-fn signed(out: Stdout, name: &[u8], s: Signed) -> io::Result<()> {
-    say::text(out, name)?;
-    if s.negative {
-        say::text(out, b"-")?;
-    }
-    say::number(out, s.magnitude)
+// What stands before the magnitude.
+fn minus(number: Signed) -> &'static str {
+    if number.negative { "-" } else { "" }
 }

@@ -11,8 +11,8 @@ use std::io;
 
 fn main(rt: HostRuntime) -> io::Result<()> {
     let out = rt.stdout();
-    readings::examples(out)?;
-    refusals::examples(out)?;
-    joins::examples(out)?;
-    joins::refusals(out)
+    for example in readings::EXAMPLES.iter().chain(&refusals::EXAMPLES) {
+        example.read(out)?;
+    }
+    joins::examples(out)
 }

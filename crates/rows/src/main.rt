@@ -11,9 +11,9 @@ use std::io;
 
 fn main(rt: HostRuntime) -> io::Result<()> {
     let out = rt.stdout();
-    readings::registers(out)?;
-    readings::other_tables(out)?;
-    refusals::examples(out)?;
-    refusals::impossible(out)?;
-    short::examples(out)
+    let good = readings::EXAMPLES.iter();
+    for example in good.chain(&refusals::EXAMPLES).chain(&short::EXAMPLES) {
+        example.read(out)?;
+    }
+    Ok(())
 }
