@@ -1,6 +1,6 @@
 -- A frame passes the test exactly when it is sealed, since a frame of two bytes or more is what stands before its last two, and then those two.
 -- Whoever knows the CRC of what stands before them has only these two to look at.
--- With room, `put` seals the first n bytes, since its two stores stand between them and what is left as it was.
+-- With room, `put` seals the first n bytes, since the two bytes that it stores stand between them and what is left as it was.
 -- The CRC of bytes fits 16 bits, since neither a right shift nor an exclusive-or of 16-bit numbers makes a longer one.
 use mathlib.Core.Path.{◌≡◌, refl, sym, ap, ap₂, ◌∙◌}
 use mathlib.Core.Bool.{Bool, true, false, ◌&&◌, cond, and-true, and-eq-true_iff}
@@ -19,6 +19,7 @@ use Rattle.std.specs.List.{fold, ends_with}
 use Rattle.std.specs.Int.{to_le_bytes, w16}
 use Rattle.crc.specs.Crc.{shift, shifts, crc_from, crc_of, on_line, sealed, body, ends_in, intact, CrcFits, IntactIsSealed, Put, PutSeals}
 
+-- a test of two bytes, the other way round
 eqb_swap : (a b : ℕ) → eqb a b ≡ eqb b a
 eqb_swap a b = cases (cases_eq a b)
   where
@@ -32,7 +33,7 @@ unfolding crc_from
 from_is_fold c [] = refl
 from_is_fold c (b ∷ bs) = from_is_fold (shifts 8 (bit_xor c b)) bs
 
--- two bytes, low one first, are what goes on the line
+-- the bytes of a CRC, low one first, are what goes on the line
 pub line_bytes : (c : ℕ) → c < 65536 → to_le_bytes w16 c ≡ on_line c
 line_bytes c h =
     let high : c / 256 % 256 ≡ c / 256 = omega arith in

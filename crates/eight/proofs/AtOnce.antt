@@ -117,6 +117,7 @@ joined (suc k) bs =
     let n : suc k * 8 ≡ 8 + k * 8 = omega arith in
     ap (λ (l : List ℕ). take 8 bs ++ l) (joined k (drop 8 bs)) ∙ rw (n, take-add 8 (k * 8) bs) refl
 
+-- gone on with from the CRC of the whole eights, over the rest, it is that of all bytes
 pub whole : (bs rest : List ℕ) (eights : List (List ℕ)) (crc : ℕ) → eights ≡ first_chunks 8 (length bs / 8) bs → rest ≡ drop (length bs / 8 * 8) bs → crc ≡ crc_of (concat eights) → crc_from crc rest ≡ crc_of bs
 whole bs rest eights crc ee er ec =
     let k = length bs / 8 in

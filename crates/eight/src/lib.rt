@@ -27,7 +27,7 @@ pub fn intact(frame: &[u8]) -> bool
     crc::intact_by(frame, of)
 }
 
-// The CRC of the bytes that make whole eights.
+// The CRC of the bytes that make whole eights. Without any there is nothing to settle, which would take some 48 instructions.
 fn whole_eights(eights: &[[u8; 8]]) -> u16
     ensures { result ≡ crc_of (concat eights.now) }
 {
@@ -40,7 +40,7 @@ fn whole_eights(eights: &[[u8; 8]]) -> u16
         .settled()
 }
 
-// A CRC in the two parts that fix it: its remainder, 64 shifts behind, and a number of its parity.
+// A CRC in the two parts that fix it: its remainder, 64 shifts behind, and a number that has its parity.
 #[derive(Clone, Copy)]
 struct Parts {
     remainder: u64,
