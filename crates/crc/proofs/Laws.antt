@@ -1,18 +1,43 @@
 -- A frame passes the test exactly when it is sealed, since a frame of two bytes or more is what stands before its last two, and then those two.
 -- Whoever knows the CRC of what stands before them has only these two to look at.
--- With room, `put` seals the first n bytes, since its two stores stand between them and what is left as it was.
+-- With room, `put` seals the first n bytes, since the two bytes that it stores stand between them and what is left as it was.
 -- The CRC of bytes fits 16 bits, since neither a right shift nor an exclusive-or of 16-bit numbers makes a longer one.
 use mathlib.Core.Path.{◌≡◌, refl, sym, ap, ap₂, ◌∙◌}
-use mathlib.Core.Bool.{Bool, true, false, ◌&&◌, cond, and-eq-true_iff}
+use mathlib.Core.Bool.{Bool, true, false, ◌&&◌, cond, and-true, and-eq-true_iff}
 use mathlib.Core.List.{List, [], ◌∷◌, ◌++◌}
 use Prim.Native.Nat.{ℕ, zero, suc, ◌+◌, ◌-◌, ◌/◌, ◌%◌, ◌^◌, ◌≤◌, ◌<◌}
 use native.Mathlib.Omega.{arith}
 use lib.Bits.{bit_xor, xor_lt}
 use lib.Dec.{leb, eqb, lit<}
-use lib.ListN.{length, get_or, take, drop, length-append, take-append-drop, drop_of_length-le}
+use lib.ListN.{length, get_or, take, drop, length-append, length-drop, take-append-drop, drop_of_length-le}
 use lib.Seq.{sets-eq, length-take-le, drop-cons, take_at, drop_at, get_or_at, get_or-append-add}
-use borrow.Author.Tests.{le-leb, lt-leb, eq-eqb, leb-true, eqb-true}
+use borrow.Author.Tests.{le-leb, lt-leb, eq-eqb, ne_eqb, leb-true, eqb-true}
+use Rattle.std.proofs.lemmas.Bool.{cases_eq, cases_lt, false_from_ne_true}
+use lib.Pointwise.{pointwise_long}
+use mathlib.Core.Logic.{◌⊎◌, inl, inr}
+use Rattle.std.specs.List.{fold, ends_with}
+use Rattle.std.specs.Int.{to_le_bytes, w16}
 use Rattle.crc.specs.Crc.{shift, shifts, crc_from, crc_of, on_line, sealed, body, ends_in, intact, CrcFits, IntactIsSealed, Put, PutSeals}
+
+-- a test of two bytes, the other way round
+eqb_swap : (a b : ℕ) → eqb a b ≡ eqb b a
+eqb_swap a b = cases (cases_eq a b)
+  where
+    cases : (a ≡ b) ⊎ (a ≡ b → ⊥) → eqb a b ≡ eqb b a
+    cases (inl e) = eq-eqb a b e ∙ sym (eq-eqb b a (sym e))
+    cases (inr n) = ne_eqb a b n ∙ sym (ne_eqb b a (λ e. n (sym e)))
+
+-- gone on with byte by byte, the CRC is a fold
+pub from_is_fold : (c : ℕ) (bs : List ℕ) → fold (λ c b. shifts 8 (bit_xor c b)) c bs ≡ crc_from c bs
+unfolding crc_from
+from_is_fold c [] = refl
+from_is_fold c (b ∷ bs) = from_is_fold (shifts 8 (bit_xor c b)) bs
+
+-- the bytes of a CRC, low one first, are what goes on the line
+pub line_bytes : (c : ℕ) → c < 65536 → to_le_bytes w16 c ≡ on_line c
+line_bytes c h =
+    let high : c / 256 % 256 ≡ c / 256 = omega arith in
+    rw high refl
 
 -- below two bytes a frame ends in no CRC, and so is not intact
 pub ends_in_none : (frame : List ℕ) (c : ℕ) → length frame < 2 → false ≡ ends_in frame c
@@ -50,18 +75,32 @@ passes bs =
       eq-eqb hi hi refl,
     )
 
--- a frame, cut before its last two bytes
-last_two : (frame : List ℕ) → 2 ≤ length frame → frame ≡ body frame ++ get_or frame (length frame - 2) 0 ∷ get_or frame (length frame - 1) 0 ∷ []
-last_two frame h =
+-- the last two bytes of a frame
+ending : (frame : List ℕ) → 2 ≤ length frame → drop (length frame - 2) frame ≡ get_or frame (length frame - 2) 0 ∷ get_or frame (length frame - 1) 0 ∷ []
+ending frame h =
     let next : suc (length frame - 2) ≡ length frame - 1 = omega arith in
-    sym (take-append-drop (length frame - 2) frame)
-    ∙ ap (λ (l : List ℕ). body frame ++ l)
-    (rw (
+    rw (
       drop-cons frame (length frame - 2) 0 (omega arith),
       next,
       drop-cons frame (length frame - 1) 0 (omega arith),
       drop_of_length-le frame {i = suc (length frame - 1)} (omega arith),
-    ))
+    ) refl
+
+-- a frame, cut before these
+last_two : (frame : List ℕ) → 2 ≤ length frame → frame ≡ body frame ++ get_or frame (length frame - 2) 0 ∷ get_or frame (length frame - 1) 0 ∷ []
+last_two frame h =
+    sym (take-append-drop (length frame - 2) frame) ∙ ap (λ (l : List ℕ). body frame ++ l) (ending frame h)
+
+-- a frame ends in what of a CRC goes on the line exactly when its last two bytes are these
+pub ends_line : (frame : List ℕ) (c : ℕ) → c < 65536 → ends_with eqb frame (to_le_bytes w16 c) ≡ ends_in frame c
+unfolding ends_in
+ends_line frame c h = cases (cases_lt (length frame) 2)
+  where
+    cases : (length frame < 2) ⊎ (2 ≤ length frame) → ends_with eqb frame (to_le_bytes w16 c) ≡ ends_in frame c
+    cases (inl short) =
+        let long = pointwise_long eqb (to_le_bytes w16 c) (drop (length frame - 2) frame) in
+        false_from_ne_true _ (λ t. omega (arith, long t, length-drop (length frame - 2) frame)) ∙ ends_in_none frame c short
+    cases (inr long) = simp (le-leb 2 (length frame) long, line_bytes c h, ending frame long, and-true, eqb_swap) refl
 
 -- what the two tests of bytes say together
 agree : (a x b y : ℕ) → (eqb a x && eqb b y) ≡ true → (a ≡ x) × (b ≡ y)

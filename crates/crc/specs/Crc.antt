@@ -45,6 +45,10 @@ ends_in frame c =
 unfoldable pub intact : List ℕ → Bool
 intact frame = ends_in frame (crc_of (body frame))
 
+-- whatever a function gives of bytes is their CRC
+abbrev pub TakesTheCrc : (List ℕ → ℕ → Type 0) → Type 0
+TakesTheCrc gives = (bs : List ℕ) (c : ℕ) → gives bs c → c ≡ crc_of bs
+
 -- STATEMENT: the CRC of bytes is a number of 16 bits
 pub record CrcFits : Type 0 where
   pub fits : (bs : List ℕ) → ((i : ℕ) → get_or bs i 0 < 256) → crc_of bs < 65536

@@ -2,9 +2,10 @@
 // shift, mask and exclusive-or.
 #![tactic(auto)]
 
-ghost use Rattle.std.specs.Prelude.{◌≡◌, ◌/◌, ◌%◌};
+ghost use Rattle.std.specs.Prelude.{◌≡◌};
+ghost use Rattle.std.specs.Fn.{FnReturnsAt};
 ghost use Rattle.std.specs.Int.Bits.{bit_xor};
-ghost use Rattle.crc.specs.Crc.{shift, shifts, crc_from, crc_of, ends_in, intact, Put};
+ghost use Rattle.crc.specs.Crc.{shift, shifts, crc_from, crc_of, ends_in, intact, Put, TakesTheCrc};
 
 // The value that a CRC starts from.
 pub const START: u16 = 0xFFFF;
@@ -20,80 +21,54 @@ pub fn of(bytes: &[u8]) -> u16
 pub fn continued(crc: u16, bytes: &[u8]) -> u16
     ensures { result ≡ crc_from crc bytes.now }
 {
-    let mut c = crc;
-    let mut i: usize = 0;
-    while i < bytes.len() {
-        c = with_byte(c, bytes[i]);
-        i += 1;
-    }
-    c
+    bytes.iter().fold(crc, |c, b| with_byte(c, *b))
 }
 
 // Whether a frame's last two bytes are its CRC, low byte first.
 pub fn intact(frame: &[u8]) -> bool
     ensures { result ≡ intact frame.now }
 {
-    if frame.len() < 2 {
+    intact_by(frame, of)
+}
+
+// The same by another function that takes the CRC: for a caller that has a quicker one.
+pub fn intact_by<F: Fn(&[u8]) -> u16>(frame: &[u8], of: F) -> bool
+    requires callable { F.IsAlwaysCallable of }
+    requires takes_the_crc { TakesTheCrc (FnReturnsAt F.Fn of) }
+    ensures { result ≡ intact frame.now }
+{
+    let Some((body, _)) = frame.split_last_chunk::<2>() else {
         return false;
-    }
-    let end = frame.len() - 2;
-    ends_in(frame, of(&frame[..end]))
+    };
+    ends_in(frame, of(body))
 }
 
 // Whether a frame's last two bytes are this CRC, low byte first.
 pub fn ends_in(frame: &[u8], crc: u16) -> bool
     ensures { result ≡ ends_in frame.now crc }
 {
-    let n = frame.len();
-    if n < 2 {
-        return false;
-    }
-    let first = low_byte(crc);
-    let second = high_byte(crc);
-    (frame[n - 2] == first) & (frame[n - 1] == second)
+    frame.ends_with(&crc.to_le_bytes())
 }
 
 // Puts the CRC of the first n bytes behind them, low byte first. If there is no room, it changes nothing and answers false.
 pub fn put(buffer: &mut [u8], n: usize) -> bool
     ensures { Put buffer.old n result buffer.new }
 {
-    if buffer.len() < 2 {
+    let Some((bytes, rest)) = buffer.split_at_mut_checked(n) else {
         return false;
-    }
-    if buffer.len() - 2 < n {
+    };
+    let Some(end) = rest.first_chunk_mut::<2>() else {
         return false;
-    }
-    let crc = of(&buffer[..n]);
-    let first = low_byte(crc);
-    let second = high_byte(crc);
-    buffer[n] = first;
-    buffer[n + 1] = second;
+    };
+    *end = of(bytes).to_le_bytes();
     true
-}
-
-fn low_byte(crc: u16) -> u8
-    ensures { result ≡ crc % 256 }
-{
-    (crc & 0xFF) as u8
-}
-
-fn high_byte(crc: u16) -> u8
-    ensures { result ≡ crc / 256 }
-{
-    (crc >> 8) as u8
 }
 
 // A CRC carried on over one byte: exclusive-ored into the low half, then eight right shifts.
 fn with_byte(crc: u16, b: u8) -> u16
     ensures { result ≡ shifts 8 (bit_xor crc b) }
 {
-    let mut c = crc ^ b as u16;
-    let mut k: u32 = 0;
-    while k < 8 {
-        c = shift(c);
-        k += 1;
-    }
-    c
+    (0..8u32).fold(crc ^ u16::from(b), |c, _| shift(c))
 }
 
 // One right shift, with the branch that the written rule has. From this form the compiler makes a table look-up of the loop above.

@@ -3,15 +3,20 @@
 use mathlib.Core.Path.{◌≡◌, refl, sym, ap, ap₂, ◌∙◌}
 use mathlib.Core.Bool.{true, cond}
 use mathlib.Core.List.{List, [], ◌∷◌, ◌++◌}
-use Prim.Native.Nat.{ℕ, zero, suc, ◌+◌, ◌*◌, ◌/◌, ◌%◌, ◌^◌, ◌≤◌, ◌<◌}
+use Prim.Native.Nat.{ℕ, zero, suc, ◌+◌, ◌*◌, ◌/◌, ◌%◌, ◌^◌, ◌<◌}
 use native.Mathlib.Omega.{arith}
 use native.Mathlib.Nat.{zero-add, suc-add, mod-lt}
-use lib.Bits.{bit_xor, xor_comm, xor_zero_r, xor_mod, shifted_half, shifted_even}
+use lib.Bits.{bit_xor, xor_comm, xor_zero_r, xor_mod, xor_shifted, shifted_half, shifted_even}
 use lib.Dec.{eqb, lit<}
-use lib.ListN.{length, take, drop, length-drop, take-append-drop}
-use lib.Seq.{length-take-le, drop-drop}
-use Rattle.crc.specs.Crc.{shift, shifts, crc_from}
-use Rattle.eight.specs.AtOnce.{Linear, run, folded, spread, narrowed, parity, mended, settled, number}
+use lib.ListN.{length, get_or, take, drop, take-append-drop, drop_of_length-le}
+use lib.Seq.{drop-cons, take-add}
+use Rattle.std.specs.Int.{from_le_bytes, w64}
+use Rattle.std.specs.List.{concat}
+use Rattle.std.specs.Simd.{first_chunks}
+use Rattle.std.proofs.lemmas.List.Folds.{concat-append}
+use Rattle.std.proofs.Common.{append-nil}
+use Rattle.crc.specs.Crc.{shift, shifts, crc_from, crc_of}
+use Rattle.eight.specs.AtOnce.{Linear, run, folded, spread, narrowed, parity, mended, settled}
 use Rattle.eight.specs.AtOnce.Linear.{it, shr, shl, low, xor, on}
 use Rattle.eight.proofs.Linear.{xor_assoc, xor_swap, run_xor, alike, by_bits}
 
@@ -51,26 +56,86 @@ unfolding shifts
 shifts_shifts zero n c = rw zero-add
 shifts_shifts (suc m) n c = rw suc-add (shifts_shifts m n (shift c))
 
+-- bytes as one number, the first lowest
+unfoldable number : List ℕ → ℕ
+number [] = 0
+number (b ∷ bs) = bit_xor (number bs * 2 ^ 8) b
+
 -- bytes that come in one by one may come in at once
-at_once : (c : ℕ) (bs more : List ℕ) → crc_from c (bs ++ more) ≡ crc_from (shifts (8 * length bs) (bit_xor c (number bs))) more
+at_once : (c : ℕ) (bs : List ℕ) → crc_from c bs ≡ shifts (8 * length bs) (bit_xor c (number bs))
 unfolding crc_from number shifts
-at_once c [] more = rw xor_zero_r
-at_once c (b ∷ bs) more =
+at_once c [] = rw xor_zero_r refl
+at_once c (b ∷ bs) =
     let n = number bs in
     let next = bit_xor c b in
     let count : 8 + 8 * length bs ≡ 8 * suc (length bs) = omega arith in
-    at_once (shifts 8 next) bs more
-    ∙ ap (λ (r : ℕ). crc_from (shifts (8 * length bs) r) more) (ap (bit_xor (shifts 8 next)) (sym (shifts_up 8 n)) ∙ sym (shifts_xor 8 next (n * 2 ^ 8)))
-    ∙ rw (shifts_shifts, count, xor_assoc, xor_comm b (n * 2 ^ 8))
+    at_once (shifts 8 next) bs
+    ∙ ap (shifts (8 * length bs)) (ap (bit_xor (shifts 8 next)) (sym (shifts_up 8 n)) ∙ sym (shifts_xor 8 next (n * 2 ^ 8)))
+    ∙ rw (shifts_shifts, count, xor_assoc, xor_comm b (n * 2 ^ 8)) refl
 
--- the next eight bytes of a slice, as one number
-pub eight : (c : ℕ) (bs : List ℕ) (i : ℕ) → i + 8 ≤ length bs → crc_from c (drop i bs) ≡ crc_from (shifts 64 (bit_xor c (number (take 8 (drop i bs))))) (drop (i + 8) bs)
-eight c bs i h =
-    let w = take 8 (drop i bs) in
-    let long : length w ≡ 8 = length-take-le 8 (drop i bs) (omega (arith, length-drop i bs)) in
-    ap (crc_from c) (sym (take-append-drop 8 (drop i bs)))
-    ∙ at_once c w (drop 8 (drop i bs))
-    ∙ rw (long, drop-drop)
+-- the number from a byte on, by that from the next byte on
+from_next : (bs : List ℕ) (i : ℕ) → i < length bs → get_or bs i 0 < 256 → number (drop i bs) ≡ number (drop (suc i) bs) * 256 + get_or bs i 0
+unfolding number
+from_next bs i h fits =
+    ap number (drop-cons bs i 0 h) ∙ xor_shifted (number (drop (suc i) bs)) 8 (get_or bs i 0) fits
+
+-- which is what `from_le_bytes` makes of eight
+number_is : (bs : List ℕ) → length bs ≡ 8 → ((i : ℕ) → get_or bs i 0 < 256) → from_le_bytes w64 bs ≡ number bs
+unfolding number
+number_is bs e fits =
+    let at : (i : ℕ) → i < 8 → number (drop i bs) ≡ number (drop (suc i) bs) * 256 + get_or bs i 0 = λ i h. from_next bs i (omega arith) (fits i) in
+    let all : number (drop 8 bs) ≡ 0 = ap number (drop_of_length-le bs {i = 8} (omega arith)) in
+    omega (
+      arith,
+      all,
+      at 0 (lit< tt),
+      at 1 (lit< tt),
+      at 2 (lit< tt),
+      at 3 (lit< tt),
+      at 4 (lit< tt),
+      at 5 (lit< tt),
+      at 6 (lit< tt),
+      at 7 (lit< tt),
+    )
+
+-- eight bytes are 64 shifts of one number
+pub eight : (c : ℕ) (bs : List ℕ) → length bs ≡ 8 → ((i : ℕ) → get_or bs i 0 < 256) → crc_from c bs ≡ shifts 64 (bit_xor c (from_le_bytes w64 bs))
+eight c bs e fits =
+    let n : 8 * length bs ≡ 64 = omega arith in
+    at_once c bs ∙ rw (n, number_is bs e fits) refl
+
+-- a CRC gone on with over some bytes and then over more
+pub from_append : (c : ℕ) (bs more : List ℕ) → crc_from c (bs ++ more) ≡ crc_from (crc_from c bs) more
+unfolding crc_from
+from_append c [] more = refl
+from_append c (b ∷ bs) more = from_append (shifts 8 (bit_xor c b)) bs more
+
+-- the whole eights of bytes, joined again
+pub joined : (k : ℕ) (bs : List ℕ) → concat (first_chunks 8 k bs) ≡ take (k * 8) bs
+joined zero bs = refl
+joined (suc k) bs =
+    let n : suc k * 8 ≡ 8 + k * 8 = omega arith in
+    ap (λ (l : List ℕ). take 8 bs ++ l) (joined k (drop 8 bs)) ∙ rw (n, take-add 8 (k * 8) bs) refl
+
+-- gone on with from the CRC of the whole eights, over the rest, it is that of all bytes
+pub whole : (bs rest : List ℕ) (eights : List (List ℕ)) (crc : ℕ) → eights ≡ first_chunks 8 (length bs / 8) bs → rest ≡ drop (length bs / 8 * 8) bs → crc ≡ crc_of (concat eights) → crc_from crc rest ≡ crc_of bs
+whole bs rest eights crc ee er ec =
+    let k = length bs / 8 in
+    rw (ec, ee, er, joined k bs)
+    (sym (from_append 0xFFFF (take (k * 8) bs) (drop (k * 8) bs)) ∙ ap crc_of (take-append-drop (k * 8) bs))
+
+-- the CRC of no eights, and of one more
+pub none : (eights : List (List ℕ)) → length eights ≡ 0 → 0xFFFF ≡ crc_of (concat eights)
+unfolding crc_from
+none [] e = refl
+none (b ∷ bs) e = absurd (omega (arith, e))
+
+pub one_more : (eights : List (List ℕ)) (next : List ℕ) (a b : ℕ) → a ≡ crc_of (concat eights) → b ≡ crc_from a next → b ≡ crc_of (concat (eights ++ next ∷ []))
+one_more eights next a b ea eb =
+    eb
+    ∙ ap (λ (r : ℕ). crc_from r next) ea
+    ∙ sym (from_append 0xFFFF (concat eights) next)
+    ∙ rw (concat-append, append-nil) refl
 
 -- the CRC in two parts: the remainder, with an even parity, and what an odd parity adds
 even : Linear

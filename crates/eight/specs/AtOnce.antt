@@ -2,7 +2,7 @@
 -- comes to the written rule is the contract of `of`. The CRC is a remainder by t^16 + t^15 + t^2 + 1, which is
 -- (t + 1)(t^15 + t + 1): so it is known by its remainder by t^15 + t + 1, for which t^30 is t^2 + 1 and t^60 is t^4 + 1,
 -- and by its parity. In a number the highest power is the lowest bit.
-use Rattle.std.specs.Prelude.{ℕ, ◌*◌, ◌/◌, ◌%◌, ◌^◌, List, [], ◌∷◌}
+use Rattle.std.specs.Prelude.{ℕ, ◌*◌, ◌/◌, ◌%◌, ◌^◌}
 use Rattle.std.specs.Int.Bits.{bit_xor}
 
 -- what shifts, masks and exclusive-ors of 64-bit numbers make of a number
@@ -50,8 +50,3 @@ mended = xor (xor it (shl 14 it)) (shl 15 it)
 unfoldable pub settled : ℕ → ℕ → ℕ
 settled x p =
     bit_xor (run (on narrowed folded) x) (run (on mended parity) (bit_xor p (run (on narrowed folded) x))) % 2 ^ 16
-
--- bytes as one number, the first lowest
-unfoldable pub number : List ℕ → ℕ
-number [] = 0
-number (b ∷ bs) = bit_xor (number bs * 2 ^ 8) b

@@ -6,63 +6,75 @@
 // things fix a CRC: its parity, and its remainder by t^15 + t + 1. For that remainder t^30 is t^2 + 1, and t^60 is t^4 + 1.
 #![tactic(auto)]
 
-ghost use Rattle.std.specs.Prelude.{◌≡◌, ◌+◌, ◌*◌, ◌/◌, ◌≤◌, length, take, drop};
+ghost use Rattle.std.specs.Prelude.{◌≡◌};
+ghost use Rattle.std.specs.List.{concat};
 ghost use Rattle.crc.specs.Crc.{crc_from, crc_of, intact};
-ghost use Rattle.eight.specs.AtOnce.{run, folded, spread, narrowed, parity, settled, number};
+ghost use Rattle.eight.specs.AtOnce.{run, folded, spread, narrowed, parity, settled};
 
 // The CRC of all bytes of a slice: eight at once while there are eight, then byte by byte.
 pub fn of(bytes: &[u8]) -> u16
     ensures { result ≡ crc_of bytes.now }
 {
-    let crc = whole_eights(bytes);
-    let end = bytes.len() / 8 * 8;
-    crc::continued(crc, &bytes[end..])
+    let (eights, rest) = bytes.as_chunks::<8>();
+    let crc = whole_eights(eights);
+    crc::continued(crc, rest)
 }
 
 // Whether a frame's last two bytes are its CRC, low byte first.
 pub fn intact(frame: &[u8]) -> bool
     ensures { result ≡ intact frame.now }
 {
-    if frame.len() < 2 {
-        return false;
-    }
-    let end = frame.len() - 2;
-    crc::ends_in(frame, of(&frame[..end]))
+    crc::intact_by(frame, of)
 }
 
-// The CRC of the bytes that make whole eights. Its remainder is kept in x, 64 shifts behind, and its parity in p. So x starts from
-// 0x0F14, which 64 shifts turn into 0xFFFF.
-fn whole_eights(bytes: &[u8]) -> u16
-    ensures { crc_from result (drop (length bytes.now / 8 * 8) bytes.now) ≡ crc_of bytes.now }
+// The CRC of the bytes that make whole eights. Without any there is nothing to settle, which would take some 48 instructions.
+fn whole_eights(eights: &[[u8; 8]]) -> u16
+    ensures { result ≡ crc_of (concat eights.now) }
 {
-    if bytes.len() < 8 {
+    if eights.is_empty() {
         return crc::START;
     }
-    let last = bytes.len() - 8;
-    let mut x: u64 = 0x0F14;
-    let mut p: u64 = 0;
-    let mut i: usize = 0;
-    while i <= last {
-        let w = eight_at(bytes, i);
-        x = spread(folded(x)) ^ w;
-        p = p ^ w;
-        i += 8;
-    }
-    settled(x, p)
+    eights
+        .iter()
+        .fold(Parts::START, |parts, eight| parts.with(*eight))
+        .settled()
 }
 
-// Eight bytes from i on as one number, the first byte lowest. The compiler makes one load of the loop.
-fn eight_at(bytes: &[u8], i: usize) -> u64
-    requires { i + 8 ≤ length bytes.now }
-    ensures { result ≡ number (take 8 (drop i bytes.now)) }
-{
-    let mut w: u64 = 0;
-    let mut k: usize = 8;
-    while 0 < k {
-        k -= 1;
-        w = (w << 8) ^ bytes[i + k] as u64;
+// A CRC in the two parts that fix it: its remainder, 64 shifts behind, and a number that has its parity.
+#[derive(Clone, Copy)]
+struct Parts {
+    remainder: u64,
+    parity: u64,
+}
+
+impl Parts {
+    // Of no bytes: 64 shifts turn 0x0F14 into 0xFFFF.
+    const START: Parts = Parts {
+        remainder: 0x0F14,
+        parity: 0,
+    };
+
+    // Carried on over eight bytes as one number, the first byte lowest.
+    fn with(self, eight: [u8; 8]) -> Parts
+        ensures { settled result.remainder result.parity
+            ≡ crc_from (settled self.remainder self.parity) eight }
+    {
+        let w = u64::from_le_bytes(eight);
+        Parts {
+            remainder: spread(folded(self.remainder)) ^ w,
+            parity: self.parity ^ w,
+        }
     }
-    w
+
+    // The CRC itself. Where the parity is still wrong, 0xC001 is exclusive-ored in: that is t^15 + t + 1, which changes the
+    // parity and leaves the remainder.
+    fn settled(self) -> u16
+        ensures { result ≡ settled self.remainder self.parity }
+    {
+        let r = narrowed(folded(self.remainder));
+        let odd = parity(self.parity ^ r);
+        ((r ^ (odd ^ (odd << 14) ^ (odd << 15))) % 0x1_0000) as u16
+    }
 }
 
 // The first 28 shifts. The upper 32 bits move down 28 places. Each of the lower 32 stays where it is and is put two places up as
@@ -101,14 +113,4 @@ fn parity(x: u64) -> u64
     let d = c ^ (c >> 4);
     let e = d ^ (d >> 2);
     (e ^ (e >> 1)) % 2
-}
-
-// The CRC with the remainder that x has after 64 shifts and with the parity of p. Where the parity is still wrong, 0xC001 is
-// exclusive-ored in: that is t^15 + t + 1, which changes the parity and leaves the remainder.
-fn settled(x: u64, p: u64) -> u16
-    ensures { result ≡ settled x p }
-{
-    let r = narrowed(folded(x));
-    let odd = parity(p ^ r);
-    ((r ^ (odd ^ (odd << 14) ^ (odd << 15))) % 0x1_0000) as u16
 }

@@ -1,46 +1,28 @@
--- `whole_eights` takes eight bytes a turn: the CRC so far, which x and p stand for, goes on over the bytes from i to that of them all.
-use Rattle.std.proofs.Common.{◌≡◌, refl, sym, ap, ◌∙◌, List, ℕ, ◌+◌, ◌*◌, ◌/◌, ◌^◌, ◌≤◌, ◌<◌, arith}
-use lib.Bits.{bit_xor, xor_lt}
-use lib.ListN.{length, take, drop}
-use Rattle.crc.specs.Crc.{shifts, crc_from, crc_of}
-use Rattle.eight.specs.AtOnce.{run, folded, spread, settled, number}
-use Rattle.eight.proofs.AtOnce.{eight, turn}
+-- `whole_eights` goes on over eight bytes a turn: its parts are always those of the CRC of the eights so far.
+use Rattle.std.proofs.Common.{rules, ◌≡◌, refl, ap, ◌∙◌, List, [], ◌∷◌, ◌++◌, ℕ, Bor}
+use Rattle.std.specs.List.{concat}
+use Rattle.std.proofs.lemmas.Fn.{fold_over, fronts}
+use Rattle.std.proofs.iter.Yields.{slice_gives}
+use Rattle.crc.specs.Crc.{crc_from, crc_of}
+use Rattle.eight.specs.AtOnce.{settled}
+use Rattle.eight.specs.declared.Parts.{Parts}
+use Rattle.eight.proofs.AtOnce.{none, one_more}
 use Rattle.eight.proofs.whole_eights.Goals as goal
 
--- what a turn does, and what is left when the whole eights are done
-module _ (bs : List ℕ) where
-  next : (i x p f s w : ℕ) → i + 8 ≤ length bs → x < 2 ^ 64 → w < 2 ^ 64 → f ≡ run folded x → s ≡ run spread f → w ≡ number (take 8 (drop i bs))
-      → crc_from (settled (bit_xor s w) (bit_xor p w)) (drop (i + 8) bs) ≡ crc_from (settled x p) (drop i bs)
-  next i x p f s w h hx hw ef es ew =
-      ap (λ (r : ℕ). crc_from r (drop (i + 8) bs))
-      (ap (λ (y : ℕ). settled (bit_xor y w) (bit_xor p w)) (es ∙ ap (run spread) ef)
-      ∙ turn x p w hx hw
-      ∙ ap (λ (v : ℕ). shifts 64 (bit_xor (settled x p) v)) ew)
-      ∙ sym (eight (settled x p) bs i h)
+-- the parts stand for the CRC of these eights
+abbrev stands_for : List (List ℕ) → Parts → Type 0
+stands_for eights p = settled p.remainder p.parity ≡ crc_of (concat eights)
 
-  whole : (r v i : ℕ) → r ≡ v → i ≡ length bs / 8 * 8 → crc_from v (drop i bs) ≡ crc_of bs → crc_from r (drop (length bs / 8 * 8) bs) ≡ crc_of bs
-  whole r v i er ei h = rw (er, ← ei) h
+pub returns-then-is_empty : goal.returns-then-is_empty
+returns-then-is_empty c = none c.args.eights.now (search rules)
 
-pub returns-then-bytes-lt8 : goal.returns-then-bytes-lt8
-returns-then-bytes-lt8 c = whole _ 0xFFFF 0xFFFF 0 refl (omega arith) refl
-
-pub loop-i-init : goal.loop-i-init
-unfolding settled
-loop-i-init c = (refl, omega arith, omega arith, refl)
-
-pub loop-i-preserved : goal.loop-i-preserved
-loop-i-preserved c =
-    let l = c.loop-i in
-    let w = c.eight_at-w.result in
-    let s = c.spread.result in (
-      omega arith,
-      omega arith,
-      xor_lt 64 s w (omega arith) (omega arith),
-      next _ l.i l.x l.p c.folded.result s w (omega arith) l.invariant.2 (omega arith) c.folded.ensures c.spread.ensures c.eight_at-w.ensures
-          ∙ l.invariant.3,
-    )
+begin : stands_for [] (record { remainder = 0x0F14; parity = 0 })
+unfolding settled crc_from
+begin = refl
 
 pub returns : goal.returns
 returns c =
-    let l = c.loop-i in
-    whole _ c.settled.result (settled l.x l.p) l.i c.settled.ensures (omega arith) l.invariant.3
+    let step : (ys : List (List ℕ)) (a : Parts) (x : Bor (List ℕ)) (b : Parts) (e : settled b.remainder b.parity ≡ crc_from (settled a.remainder a.parity) x.now) → stands_for ys a → stands_for (ys ++ x.now ∷ []) b = λ ys a x b e h. one_more ys x.now _ _ h e in
+    c.settled.ensures
+    ∙ fold_over fronts (λ y. y.now) _ stands_for _ (λ ys a x b f' h k. (step ys a x b (search rules) h, search rules)) c.iter.result c.iter.result.rest.now _ c.fold.result (slice_gives c.iter.result) begin c.fold.ensures.ran
+    ∙ ap (λ (all : List (List ℕ)). crc_of (concat all)) c.iter.ensures.rest
