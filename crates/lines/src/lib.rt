@@ -64,7 +64,7 @@ fn line_ok(line: &[u8]) -> bool
 }
 
 // Puts the byte of each pair, as many as there is room for, and answers how many. A pair and its space are three characters. What is
-// no pair would count as 0; the line was tested.
+// no pair would count as 0; the line was tested. Indexes the line: of a part that chunks(3) gives the proof did not see its length.
 fn put_bytes(line: &[u8], buffer: &mut [u8]) -> usize
     ensures value { result ≡ min (length (bytes_of line.now)) (length buffer.old) }
     ensures buffer_after { buffer.new ≡ sets buffer.old 0 (take (length buffer.old) (bytes_of line.now)) }
@@ -85,13 +85,13 @@ pub fn text(bytes: &[u8], buffer: &mut [u8]) -> Option<usize>
     if buffer.len() / 3 < n {
         return None;
     }
-    let Some((first, others)) = bytes.split_first() else {
+    let Some((last, others)) = bytes.split_last() else {
         return Some(0);
     };
-    digits::put_digits(buffer, 0, *first);
     for (i, b) in others.iter().enumerate() {
+        digits::put_digits(buffer, 3 * i, *b);
         buffer[3 * i + 2] = SPACE;
-        digits::put_digits(buffer, 3 * i + 3, *b);
     }
+    digits::put_digits(buffer, 3 * others.len(), *last);
     Some(3 * n - 1)
 }

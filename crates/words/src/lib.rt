@@ -29,7 +29,8 @@ fn put_two(buffer: &mut [u8], at: usize, first: u16, second: u16)
     put_word(buffer, at + 2, second);
 }
 
-// Puts v at a place of the buffer: its lower 16 bits as one word, or all 32 as two in their order.
+// Puts v at a place of the buffer: its lower 16 bits as one word, or all 32 as two in their order. How many words stays a number: it
+// stands so in the directory's rows, and the laws of words are over any.
 pub fn put(buffer: &mut [u8], at: usize, words: usize, order: Order, v: u32)
     requires { (at + 2 * words ≤ length buffer.old) × ((1 ≤ words) × (words ≤ 2)) }
     ensures { buffer.new ≡ sets buffer.old at (sent order words v) }
