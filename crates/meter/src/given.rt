@@ -8,7 +8,7 @@ use ratio::Ratios;
 use refusal::Refusal;
 use words::Order;
 
-#[derive(Clone, Copy)]
+#[derive(Clone, Copy, Debug, PartialEq, Eq)]
 pub struct Given {
     // Its own address, 1 to 255.
     pub address: u8,

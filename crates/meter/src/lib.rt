@@ -22,7 +22,7 @@ use samples::Sample;
 use words::Order;
 
 // A meter's record, in groups. Each group tests its own limits and says what it is in a new meter.
-#[derive(Clone, Copy)]
+#[derive(Clone, Copy, Debug, PartialEq, Eq)]
 pub struct Meter {
     pub given: Given,
     pub counters: Counters,
@@ -33,7 +33,7 @@ pub struct Meter {
 
 // The answer to a new meter or to a sample, and the meter after the call.
 // Stays a struct: `after` hands back the next meter by value, a refused one too, and a refused new meter hands back its record.
-#[derive(Clone, Copy)]
+#[derive(Clone, Copy, Debug, PartialEq, Eq)]
 pub struct Answered {
     pub answer: Result<(), Refusal>,
     pub meter: Meter,
@@ -104,7 +104,7 @@ impl Meter {
     }
 
     // The meter after a sample of one second. A refused sample leaves it as it was.
-    // Stays with a return for each refusal: a sample took 614 instructions so, and by a Result with `?` 686, 730 or 731, as it was passed.
+    // Stays with a return for each refusal: a sample took 602 instructions so, and by a Result with `?`, in three forms, 686 to 731.
     pub fn after(self, sample: Sample) -> Answered
         ensures { result ≡ after_of self sample }
     {

@@ -24,11 +24,12 @@ impl Powers {
     }
 
     // The sum of all three phases, which the power limit is for. Phases are added nowhere else.
+    // `Held` stays a clause: two functions ask it, one for the other, and a sample within limits tells it.
     fn sum(self) -> Signed
         requires { Held self }
         ensures { result ≡ sum_of self }
     {
-        Signed::of(self.l1 + self.l2 + self.l3)
+        Signed::from(self.l1 + self.l2 + self.l3)
     }
 
     // The 3-phase power that is shown and counted: the sum of all three phases.
@@ -61,7 +62,7 @@ impl Factor {
     pub fn signed(self) -> Signed
         ensures { result ≡ factor_of self }
     {
-        Signed::of(i64::from(self.0))
+        Signed::from(i64::from(self.0))
     }
 }
 
@@ -87,7 +88,7 @@ pub struct Sample {
 }
 
 impl Sample {
-    // The sample of a new meter: 0, except sequence 1.
+    // The sample of a new meter: 0, except sequence 1. Stays by hand: a default's sequence, 0, would be out of limits.
     pub(crate) fn blank() -> Sample
         ensures { result ≡ no_sample }
     {
