@@ -7,8 +7,10 @@ use native.Mathlib.Omega.{arith}
 use lib.Dec.{ltb, eqb}
 use lib.ListN.{length}
 use lib.Seq.{sets}
+use Rattle.std.proofs.Common.{Option, Some, None, Result, Ok, Err}
 use borrow.Author.Tests.{eq-eqb, ne_eqb, eqb-true, eqb-false}
 use Rattle.refusal.specs.declared.Refusal.TheVariants.{MeterOutOfLimits, BufferShort}
+use Rattle.refusal.specs.declared.ErrorCode.{ErrorCode}
 use Rattle.refusal.specs.declared.ErrorCode.TheVariants.{Function}
 use Rattle.directory.specs.Views.{View}
 use Rattle.directory.specs.Tenant.{tenant_of}
@@ -18,11 +20,8 @@ use Rattle.meter.specs.declared.given.Given.{Given}
 use Rattle.meter.specs.declared.Meter.{Meter}
 use Rattle.meter.specs.Meters.{meter_ok}
 use Rattle.registers.specs.Shown.{shown_of}
-use Rattle.board.specs.declared.Reply.TheVariants.{Sent}
-use Rattle.store.specs.declared.Verdict.{Verdict}
-use Rattle.store.specs.declared.Written.{Written}
 use Rattle.board.specs.Reads.{read_reply}
-use Rattle.store.specs.Writes.{written_of}
+use Rattle.store.specs.Writes.{fault_of, left_by, written_of}
 use Rattle.board.specs.Board.{Outcome, Allowed, refused_of, silent_of, sent_or_silent, write_reply, obeyed_in, heard_as, to_second, address_for, view_for, board_in}
 
 -- what is defined is allowed
@@ -82,20 +81,20 @@ module _ (v : View) (writes : Bool) (m : Meter) (frame buffer : List ℕ) where
   pub obeys_read : is_read frame ≡ true → sent_or_silent frame (read_reply v m.given.order (shown_of m) frame) m buffer ≡ obeyed_in v writes m frame buffer
   obeys_read r = rw r refl
 
-  pub obeys_write : (writes && is_write frame) ≡ true → sent_or_silent frame (write_reply frame (written_of m frame).verdict) (written_of m frame).meter buffer ≡ obeyed_in v writes m frame buffer
+  pub obeys_write : (writes && is_write frame) ≡ true → sent_or_silent frame (write_reply frame (fault_of (written_of m frame))) (left_by m (written_of m frame)) buffer ≡ obeyed_in v writes m frame buffer
   obeys_write w = rw (write_only (write_is w), w) refl
 
   -- for all meters, and for this one
   to_all : (bytes : List ℕ) (n : Meter) → address_of frame ≡ 0 → silent_of n buffer ≡ sent_or_silent frame bytes n buffer
   to_all bytes n z = rw (eq-eqb (address_of frame) 0 z) refl
 
-  to_one : (bytes : List ℕ) (n : Meter) → (address_of frame ≡ 0 → ⊥) → (k : ℕ) (after : List ℕ) → k ≡ length bytes → after ≡ sets buffer 0 bytes → record { handled = record { reply = Sent k; meter = n }; buffer = after } ≡ sent_or_silent frame bytes n buffer
+  to_one : (bytes : List ℕ) (n : Meter) → (address_of frame ≡ 0 → ⊥) → (k : ℕ) (after : List ℕ) → k ≡ length bytes → after ≡ sets buffer 0 bytes → record { handled = record { reply = Ok (Some k); meter = n }; buffer = after } ≡ sent_or_silent frame bytes n buffer
   to_one bytes n z k after l s = rw (ne_eqb (address_of frame) 0 z, l, s) refl
 
-  pub read_sent : is_read frame ≡ true → (address_of frame ≡ 0 → ⊥) → (k : ℕ) (after : List ℕ) → k ≡ length (read_reply v m.given.order (shown_of m) frame) → after ≡ sets buffer 0 (read_reply v m.given.order (shown_of m) frame) → record { handled = record { reply = Sent k; meter = m }; buffer = after } ≡ obeyed_in v writes m frame buffer
+  pub read_sent : is_read frame ≡ true → (address_of frame ≡ 0 → ⊥) → (k : ℕ) (after : List ℕ) → k ≡ length (read_reply v m.given.order (shown_of m) frame) → after ≡ sets buffer 0 (read_reply v m.given.order (shown_of m) frame) → record { handled = record { reply = Ok (Some k); meter = m }; buffer = after } ≡ obeyed_in v writes m frame buffer
   read_sent r z k after l s = to_one (read_reply v m.given.order (shown_of m) frame) m z k after l s ∙ obeys_read r
 
-  pub other_sent : is_read frame ≡ false → (writes && is_write frame) ≡ false → (address_of frame ≡ 0 → ⊥) → (k : ℕ) (after : List ℕ) → k ≡ length (error_reply frame Function) → after ≡ sets buffer 0 (error_reply frame Function) → record { handled = record { reply = Sent k; meter = m }; buffer = after } ≡ obeyed_in v writes m frame buffer
+  pub other_sent : is_read frame ≡ false → (writes && is_write frame) ≡ false → (address_of frame ≡ 0 → ⊥) → (k : ℕ) (after : List ℕ) → k ≡ length (error_reply frame Function) → after ≡ sets buffer 0 (error_reply frame Function) → record { handled = record { reply = Ok (Some k); meter = m }; buffer = after } ≡ obeyed_in v writes m frame buffer
   other_sent r w z k after l s = to_one (error_reply frame Function) m z k after l s ∙ obeys_other r w
 
   pub unwritten : (writes && is_write frame) ≡ false → address_of frame ≡ 0 → silent_of m buffer ≡ obeyed_in v writes m frame buffer
@@ -105,13 +104,12 @@ module _ (v : View) (writes : Bool) (m : Meter) (frame buffer : List ℕ) where
       by true r = to_all (read_reply v m.given.order (shown_of m) frame) m z ∙ obeys_read r
       by false r = to_all (error_reply frame Function) m z ∙ obeys_other r w
 
-  module _ (h : (writes && is_write frame) ≡ true) (w : Written) (e : w ≡ written_of m frame) where
-    pub write_silent : address_of frame ≡ 0 → silent_of w.meter buffer ≡ obeyed_in v writes m frame buffer
-    write_silent z = rw e (to_all (write_reply frame (written_of m frame).verdict) (written_of m frame).meter z ∙ obeys_write h)
+  module _ (h : (writes && is_write frame) ≡ true) (w : Result Meter ErrorCode) (e : w ≡ written_of m frame) where
+    pub write_silent : address_of frame ≡ 0 → silent_of (left_by m w) buffer ≡ obeyed_in v writes m frame buffer
+    write_silent z = rw e (to_all (write_reply frame (fault_of (written_of m frame))) (left_by m (written_of m frame)) z ∙ obeys_write h)
 
-    pub write_sent : (address_of frame ≡ 0 → ⊥) → (said : Verdict) → w.verdict ≡ said → (k : ℕ) (after : List ℕ) → k ≡ length (write_reply frame said) → after ≡ sets buffer 0 (write_reply frame said) → record { handled = record { reply = Sent k; meter = w.meter }; buffer = after } ≡ obeyed_in v writes m frame buffer
-    write_sent z said q k after l s =
-        let p : said ≡ (written_of m frame).verdict = sym q ∙ ap (λ (x : Written). x.verdict) e in
-        let l' = l ∙ ap (λ (x : Verdict). length (write_reply frame x)) p in
-        let s' = s ∙ ap (λ (x : Verdict). sets buffer 0 (write_reply frame x)) p in
-        rw e (to_one (write_reply frame (written_of m frame).verdict) (written_of m frame).meter z k after l' s' ∙ obeys_write h)
+    pub write_sent : (address_of frame ≡ 0 → ⊥) → (k : ℕ) (after : List ℕ) → k ≡ length (write_reply frame (fault_of w)) → after ≡ sets buffer 0 (write_reply frame (fault_of w)) → record { handled = record { reply = Ok (Some k); meter = left_by m w }; buffer = after } ≡ obeyed_in v writes m frame buffer
+    write_sent z k after l s =
+        let l' = l ∙ ap (λ (x : Result Meter ErrorCode). length (write_reply frame (fault_of x))) e in
+        let s' = s ∙ ap (λ (x : Result Meter ErrorCode). sets buffer 0 (write_reply frame (fault_of x))) e in
+        rw e (to_one (write_reply frame (fault_of (written_of m frame))) (left_by m (written_of m frame)) z k after l' s' ∙ obeys_write h)

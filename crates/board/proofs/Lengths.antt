@@ -7,8 +7,10 @@ use native.Mathlib.Nat.{min-le_left}
 use native.Mathlib.Omega.{arith}
 use lib.Dec.{T, ltb, eqb}
 use lib.ListN.{length, take, length-take}
+use Rattle.std.proofs.Common.{Option, Some, None, Result, Ok, Err}
 use Rattle.refusal.specs.declared.Refusal.{Refusal}
 use Rattle.refusal.specs.declared.Refusal.TheVariants.{MeterOutOfLimits, BufferShort}
+use Rattle.refusal.specs.declared.ErrorCode.{ErrorCode}
 use Rattle.refusal.specs.declared.ErrorCode.TheVariants.{Function}
 use Rattle.crc.proofs.Laws.{length_sealed}
 use Rattle.words.specs.declared.Order.{Order}
@@ -28,11 +30,8 @@ use Rattle.modbus.proofs.Judged.{legal_read}
 use Rattle.meter.specs.declared.Meter.{Meter}
 use Rattle.meter.specs.Meters.{meter_ok}
 use Rattle.registers.specs.Shown.{shown_of}
-use Rattle.store.specs.declared.Verdict.{Verdict}
-use Rattle.store.specs.declared.Verdict.TheVariants.{Good, Wrong}
-use Rattle.store.specs.Writes.{written_of}
+use Rattle.store.specs.Writes.{fault_of, left_by, written_of}
 use Rattle.board.specs.declared.Handled.{Handled}
-use Rattle.board.specs.declared.Reply.TheVariants.{Sent}
 use Rattle.board.specs.Reads.{items_sent, data_reply, read_bytes, read_reply}
 use Rattle.board.specs.Board.{Outcome, refused_of, silent_of, sent_of, sent_or_silent, write_reply, obeyed_in, heard_as, to_second, board_in, board_of}
 use Rattle.board.proofs.Sent.{length_items}
@@ -44,9 +43,9 @@ echo_long frame =
     let six : length (take 6 frame) ≤ 6 = rw (length-take 6 frame) (min-le_left 6 (length frame)) in
     omega (arith, length_sealed (take 6 frame), six)
 
-write_long : (frame : List ℕ) (verdict : Verdict) → length (write_reply frame verdict) ≤ 256
-write_long frame (Wrong code) = omega arith
-write_long frame Good = echo_long frame
+pub write_long : (frame : List ℕ) (fault : Option ErrorCode) → length (write_reply frame fault) ≤ 256
+write_long frame (Some code) = omega arith
+write_long frame None = echo_long frame
 
 module _ (v : View) (good : T (passes v)) (o : Order) (shown : ℕ → ℕ) (frame : List ℕ) where
   pub data_long : (first count : ℕ) → read_in v frame ≡ Items first count → length (data_reply frame (items_sent o shown (run_items v.seen first count))) ≤ 256
@@ -56,7 +55,7 @@ module _ (v : View) (good : T (passes v)) (o : Order) (shown : ℕ → ℕ) (fra
       let bs = address_of frame ∷ function_of frame ∷ 2 * word_number frame ∷ items_sent o shown its in
       omega (arith, length_sealed bs, length_items o shown its, a.sends, a.most, passes_room v good)
 
-  read_long : length (read_reply v o shown frame) ≤ 256
+  pub read_long : length (read_reply v o shown frame) ≤ 256
   read_long = by (read_in v frame) refl
     where
       by : (span : Span) → read_in v frame ≡ span → length (read_bytes v o shown frame span) ≤ 256
@@ -67,7 +66,7 @@ module _ (v : View) (good : T (passes v)) (o : Order) (shown : ℕ → ℕ) (fra
 
 -- whatever is sent is short enough
 abbrev Short : Outcome → Type 0
-Short o = (n : ℕ) → o.handled.reply ≡ Sent n → n ≤ 256
+Short o = (n : ℕ) → o.handled.reply ≡ Ok (Some n) → n ≤ 256
 
 short_either : (t : Bool) (x y : Outcome) → Short x → Short y → Short (cond t x y)
 short_either true x y h k = h
@@ -89,7 +88,7 @@ module _ (v : View) (good : T (passes v)) (m : Meter) (frame b : List ℕ) where
   short_obeyed writes =
       short_either (not (is_read frame) && not (writes && is_write frame)) _ _ (short_reply frame (error_reply frame Function) m b (omega arith))
       (short_either (is_read frame) _ _ (short_reply frame (read_reply v m.given.order (shown_of m) frame) m b (read_long v good m.given.order (shown_of m) frame))
-      (short_reply frame (write_reply frame (written_of m frame).verdict) (written_of m frame).meter b (write_long frame (written_of m frame).verdict)))
+      (short_reply frame (write_reply frame (fault_of (written_of m frame))) (left_by m (written_of m frame)) b (write_long frame (fault_of (written_of m frame)))))
 
   short_heard : (address : ℕ) (writes : Bool) → Short (heard_as address v writes m frame b)
   short_heard address writes = short_either (silence address frame) _ _ (short_silent m b) (short_obeyed writes)
@@ -105,5 +104,5 @@ module _ (v : View) (good : T (passes v)) (m : Meter) (frame b : List ℕ) where
       (short_heard v good m frame b m.given.address true)))
 
 -- a program's buffer has room for the reply that `board::handle` answers with
-pub reply_long : (m : Meter) (frame b : List ℕ) {h : Handled} {n : ℕ} → h ≡ (board_of m frame b).handled → h.reply ≡ Sent n → n ≤ 256
+pub reply_long : (m : Meter) (frame b : List ℕ) {h : Handled} {n : ℕ} → h ≡ (board_of m frame b).handled → h.reply ≡ Ok (Some n) → n ≤ 256
 reply_long m frame b is e = board_short own own_passes.passed m frame b _ (ap (λ (x : Handled). x.reply) (sym is) ∙ e)

@@ -1,3 +1,4 @@
 pub mod Sent
 pub mod Cases
 pub mod Lengths
+pub mod Rooms

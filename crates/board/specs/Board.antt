@@ -1,10 +1,11 @@
 -- Paper 01, "What the meter does with a frame": its five steps in their order, first that applies, and address 0. Reads go by a view, a
 -- directory and the most words of a read. Paper 02, request 3: frames to the second address, by the same rule; request 5: in the record's
 -- order, at both.
-use Rattle.std.specs.Prelude.{◌≡◌, ℕ, Bool, true, false, ◌&&◌, not, cond, List, [], ◌∷◌, ltb, eqb, length}
+use Rattle.std.specs.Prelude.{◌≡◌, ℕ, Bool, true, false, ◌&&◌, not, cond, List, [], ◌∷◌, ltb, eqb, length, Option, Some, None, Result, Ok, Err}
 use Rattle.std.proofs.lemmas.List.Edits.{sets}
 use Rattle.refusal.specs.declared.Refusal.{Refusal}
 use Rattle.refusal.specs.declared.Refusal.TheVariants.{MeterOutOfLimits, BufferShort}
+use Rattle.refusal.specs.declared.ErrorCode.{ErrorCode}
 use Rattle.refusal.specs.declared.ErrorCode.TheVariants.{Function}
 use Rattle.refusal.specs.Numbers.{refusal_number, refused_by}
 use Rattle.directory.specs.Views.{View}
@@ -16,19 +17,15 @@ use Rattle.meter.specs.declared.given.Given.{Given}
 use Rattle.meter.specs.declared.Meter.{Meter}
 use Rattle.meter.specs.Meters.{meter_ok}
 use Rattle.registers.specs.Shown.{shown_of}
-use Rattle.board.specs.declared.Reply.{Reply}
-use Rattle.board.specs.declared.Reply.TheVariants.{Silent, Sent, Refused}
 use Rattle.board.specs.declared.Handled.{Handled}
 use Rattle.board.specs.Reads.{read_reply}
-use Rattle.store.specs.declared.Verdict.{Verdict}
-use Rattle.store.specs.declared.Verdict.TheVariants.{Good, Wrong}
-use Rattle.store.specs.Writes.{written_of}
+use Rattle.store.specs.Writes.{fault_of, left_by, written_of}
 
 -- a reply in numbers: 0 for silence; 1 and the bytes sent; the number of the refusal
-abbrev pub reply_told : Reply → List ℕ
-reply_told Silent = 0 ∷ []
-reply_told (Sent n) = 1 ∷ n ∷ []
-reply_told (Refused reason) = refused_by (refusal_number reason)
+abbrev pub reply_told : Result (Option ℕ) Refusal → List ℕ
+reply_told (Ok None) = 0 ∷ []
+reply_told (Ok (Some n)) = 1 ∷ n ∷ []
+reply_told (Err reason) = refused_by (refusal_number reason)
 
 -- what a frame leads to: the answer with the meter's record, and the reply buffer
 pub record Outcome : Type 0 where
@@ -42,24 +39,24 @@ pub record Allowed (defined : Outcome) (x : Handled) (buffer : List ℕ) : Type 
 
 -- a refusal returns its number; every record and buffer is as before
 abbrev pub refused_of : Refusal → Meter → List ℕ → Outcome
-refused_of reason m buffer = record { handled = record { reply = Refused reason; meter = m }; buffer = buffer }
+refused_of reason m buffer = record { handled = record { reply = Err reason; meter = m }; buffer = buffer }
 
 -- on silence all reply bytes stay as they were
 abbrev pub silent_of : Meter → List ℕ → Outcome
-silent_of m buffer = record { handled = record { reply = Silent; meter = m }; buffer = buffer }
+silent_of m buffer = record { handled = record { reply = Ok None; meter = m }; buffer = buffer }
 
 -- a reply stands at the start of the buffer; the bytes beyond its length stay as they were
 abbrev pub sent_of : List ℕ → Meter → List ℕ → Outcome
-sent_of bytes m buffer = record { handled = record { reply = Sent (length bytes); meter = m }; buffer = sets buffer 0 bytes }
+sent_of bytes m buffer = record { handled = record { reply = Ok (Some (length bytes)); meter = m }; buffer = sets buffer 0 bytes }
 
 -- address 0: silence is kept always
 abbrev pub sent_or_silent : List ℕ → List ℕ → Meter → List ℕ → Outcome
 sent_or_silent frame bytes m buffer = cond (eqb (address_of frame) 0) (silent_of m buffer) (sent_of bytes m buffer)
 
 -- 5. as the write is judged: its error, or address, function, start and word number are echoed
-abbrev pub write_reply : List ℕ → Verdict → List ℕ
-write_reply frame (Wrong code) = error_reply frame code
-write_reply frame Good = echo_reply frame
+abbrev pub write_reply : List ℕ → Option ErrorCode → List ℕ
+write_reply frame (Some code) = error_reply frame code
+write_reply frame None = echo_reply frame
 
 -- what is done with a frame that the meter heeds, by a view and whether it may write: steps 3 to 5
 abbrev pub obeyed_in : View → Bool → Meter → List ℕ → List ℕ → Outcome
@@ -69,7 +66,7 @@ obeyed_in v writes m frame buffer =
     -- 4. 0x03: error 03 or 02, else data
     (cond (is_read frame) (sent_or_silent frame (read_reply v m.given.order (shown_of m) frame) m buffer)
     -- 5. 0x10: error 03 or 02, else the group is stored and echoed. Only a stored write alters the record
-    (sent_or_silent frame (write_reply frame (written_of m frame).verdict) (written_of m frame).meter buffer))
+    (sent_or_silent frame (write_reply frame (fault_of (written_of m frame))) (left_by m (written_of m frame)) buffer))
 
 -- steps 2 to 5, by an address, a view and whether it may write
 abbrev pub heard_as : ℕ → View → Bool → Meter → List ℕ → List ℕ → Outcome

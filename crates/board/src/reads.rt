@@ -1,49 +1,39 @@
 // The reply to a read (paper 01, "What the meter does with a frame", step 4).
-ghost use Rattle.std.specs.Prelude.{◌≡◌, true, cond, ◌+◌, ◌*◌, ◌≤◌, ◌<◌, T, length};
+ghost use Rattle.std.specs.Prelude.{◌≡◌, true, ◌+◌, ◌*◌, ◌≤◌, ◌<◌, T, length};
 ghost use Rattle.std.proofs.lemmas.List.Edits.{sets};
 ghost use Rattle.directory.specs.Item.{items};
 ghost use Rattle.directory.specs.Order.{every, narrow};
 ghost use Rattle.directory.specs.Run.{words_of};
 ghost use Rattle.directory.specs.Views.{view_of, Lent};
-ghost use Rattle.own.specs.Own.{own, own_reach, tenant_reach};
+ghost use Rattle.own.specs.Own.{own};
 ghost use Rattle.modbus.specs.Frame.{function_of, word_number};
 ghost use Rattle.meter.specs.Meters.{meter_ok};
 ghost use Rattle.registers.specs.Shown.{shown_of};
 ghost use Rattle.board.specs.Reads.{items_sent, data_reply, read_reply};
+ghost use Rattle.board.specs.Askers.{is_tenant};
 ghost use Rattle.board.specs.Board.{view_for};
 
+use crate::Room;
+use crate::asker::Asker;
 use directory::{Reach, Span};
 use meter::Meter;
 use own::table;
 
-// Puts the reply to a tenant, or to any other, at the start of the buffer, and answers its length.
-pub(crate) fn read(tenant: bool, m: Meter, frame: &[u8], buffer: &mut [u8]) -> usize
+// Puts the reply to whoever asks at the start of the buffer, and answers its length.
+pub(crate) fn read(asker: Asker, m: Meter, frame: &[u8], buffer: &mut Room) -> usize
     requires within_limits { meter_ok m ≡ true }
     requires function_below_0x80 { (2 ≤ length frame.now) × (function_of frame.now < 0x80) }
-    requires room { 256 ≤ length buffer.old }
-    ensures value { result ≡ length (read_reply (view_for own tenant) m.given.order (shown_of m) frame.now) }
-    ensures buffer_after { buffer.new ≡ sets buffer.old 0 (read_reply (view_for own tenant) m.given.order (shown_of m) frame.now) }
+    ensures value { result ≡ length (read_reply (view_for own (is_tenant asker)) m.given.order (shown_of m) frame.now) }
+    ensures buffer_after { buffer.new ≡ sets buffer.old 0 (read_reply (view_for own (is_tenant asker)) m.given.order (shown_of m) frame.now) }
 {
-    with_table(&table::TABLE, reach_for(tenant), m, frame, buffer)
-}
-
-// How much of the table a tenant, or any other, may read.
-fn reach_for(tenant: bool) -> Reach
-    ensures { result ≡ cond tenant tenant_reach own_reach }
-{
-    if tenant {
-        own::tenant_reach()
-    } else {
-        own::reach()
-    }
+    with_table(&table::TABLE, asker.reach(), m, frame, buffer)
 }
 
 // The same with the table lent: each use of the constant's name copies the whole table onto the stack.
-fn with_table(table: &[u16], reach: Reach, m: Meter, frame: &[u8], buffer: &mut [u8]) -> usize
+fn with_table(table: &[u16], reach: Reach, m: Meter, frame: &[u8], buffer: &mut Room) -> usize
     requires lent { Lent table.now reach }
     requires within_limits { meter_ok m ≡ true }
     requires function_below_0x80 { (2 ≤ length frame.now) × (function_of frame.now < 0x80) }
-    requires room { 256 ≤ length buffer.old }
     ensures value { result ≡ length (read_reply (view_of table.now reach) m.given.order (shown_of m) frame.now) }
     ensures buffer_after { buffer.new ≡ sets buffer.old 0 (read_reply (view_of table.now reach) m.given.order (shown_of m) frame.now) }
 {
@@ -57,11 +47,11 @@ fn with_table(table: &[u16], reach: Reach, m: Meter, frame: &[u8], buffer: &mut 
 }
 
 // Puts the data reply to a read of the items `asked`, which are a part of the table, and answers its length.
-fn put_data(asked: &[u16], m: Meter, frame: &[u8], buffer: &mut [u8]) -> usize
+fn put_data(asked: &[u16], m: Meter, frame: &[u8], buffer: &mut Room) -> usize
     requires items_narrow { T (every narrow (items asked.now)) }
     requires within_limits { meter_ok m ≡ true }
     requires words_as_asked { (length frame.now ≡ 8) × (words_of (items asked.now) ≡ word_number frame.now) }
-    requires room { (5 + 2 * word_number frame.now ≤ 256) × (256 ≤ length buffer.old) }
+    requires room { 5 + 2 * word_number frame.now ≤ 256 }
     ensures value { result ≡ length (data_reply frame.now (items_sent m.given.order (shown_of m) (items asked.now))) }
     ensures buffer_after { buffer.new ≡ sets buffer.old 0 (data_reply frame.now (items_sent m.given.order (shown_of m) (items asked.now))) }
 {

@@ -17,27 +17,21 @@ bounds-frame-0 c = omega (arith, c.requires.words_as_asked.0)
 pub bounds-frame-1 : goal.bounds-frame-1
 bounds-frame-1 c = omega (arith, c.requires.words_as_asked.0)
 
-pub bounds-buffer-1 : goal.bounds-buffer-1
-bounds-buffer-1 c = simp length-set (omega arith)
-
 pub word_at-requires : goal.word_at-requires
 word_at-requires c = omega (arith, c.requires.words_as_asked.0)
 
 pub overflow_mul-buffer : goal.overflow_mul-buffer
-overflow_mul-buffer c = omega (arith, c.requires.room.0, c.word_at.ensures)
+overflow_mul-buffer c = omega (arith, c.requires.room, c.word_at.ensures)
 
 pub overflow_cast-buffer : goal.overflow_cast-buffer
-overflow_cast-buffer c = omega (arith, c.requires.room.0, c.word_at.ensures)
-
-pub bounds-buffer-2 : goal.bounds-buffer-2
-bounds-buffer-2 c = simp length-set (omega arith)
+overflow_cast-buffer c = omega (arith, c.requires.room, c.word_at.ensures)
 
 pub put_items-end-requires : goal.put_items-end-requires
-put_items-end-requires c = record { items_narrow = c.requires.items_narrow; within_limits = c.requires.within_limits; room = simp length-set (omega (arith, c.requires.words_as_asked.1, c.requires.room.0, c.requires.room.1)) }
+put_items-end-requires c = record { items_narrow = c.requires.items_narrow; within_limits = c.requires.within_limits; room = simp length-set (omega (arith, c.requires.words_as_asked.1, c.requires.room)) }
 
 pub overflow_add-result : goal.overflow_add-result
 overflow_add-result c =
-    let room : c.put_items-end.result + 2 ≤ length c.args.buffer.now = omega (arith, c.put_items-end.ensures.value, c.requires.words_as_asked.1, c.requires.room.0, c.requires.room.1) in
+    let room : c.put_items-end.result + 2 ≤ length c.args.buffer.now = omega (arith, c.put_items-end.ensures.value, c.requires.words_as_asked.1, c.requires.room) in
     omega (arith, room)
 
 pub returns : goal.returns
@@ -46,7 +40,7 @@ returns c =
     function_of c.args.frame.now ∷
     2 * n ∷
     items_sent c.args.m.given.order (shown_of c.args.m) (items c.args.asked.now)) (word_number c.args.frame.now)) ≡ c.put_items-end.result = omega (arith, length_items c.args.m.given.order (shown_of c.args.m) (items c.args.asked.now), c.put_items-end.ensures.value) in
-    let room : c.put_items-end.result + 2 ≤ length c.args.buffer.now = omega (arith, c.put_items-end.ensures.value, c.requires.words_as_asked.1, c.requires.room.0, c.requires.room.1) in
+    let room : c.put_items-end.result + 2 ≤ length c.args.buffer.now = omega (arith, c.put_items-end.ensures.value, c.requires.words_as_asked.1, c.requires.room) in
     let stored : c.put_items-end.new.buffer ≡ sets c.args.buffer.now 0 ((λ (n : ℕ). address_of c.args.frame.now ∷
     function_of c.args.frame.now ∷
     2 * n ∷
@@ -68,7 +62,3 @@ returns c =
           2 * n ∷
           items_sent c.args.m.given.order (shown_of c.args.m) (items c.args.asked.now)) (word_number c.args.frame.now)) c.put_items-end.result _ _ _ long room c.put.ensures stored;
     }
-
-pub shape_of-buffer : goal.shape_of-buffer
-shape_of-buffer c =
-    ap length (returns c).buffer_after ∙ length-sets c.args.buffer.now 0 (data_reply c.args.frame.now (items_sent c.args.m.given.order (shown_of c.args.m) (items c.args.asked.now)))

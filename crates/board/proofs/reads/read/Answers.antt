@@ -10,6 +10,7 @@ use Rattle.directory.proofs.Flat.{flat}
 use Rattle.own.proofs.Rules.{own_view, own_lent, tenant_seen, tenant_lent}
 use Rattle.registers.specs.Shown.{shown_of}
 use Rattle.board.specs.Reads.{read_reply}
+use Rattle.board.specs.Askers.{is_tenant}
 use Rattle.board.specs.Board.{view_for}
 use Rattle.board.proofs.reads.read.Goals as goal
 
@@ -26,11 +27,11 @@ pub with_table-requires : goal.with_table-requires
 unfolding directory flat
 with_table-requires c =
     let r = c.requires in
-    record { lent = part_lent c.args.tenant _ c.reach_for.ensures; within_limits = r.within_limits; function_below_0x80 = r.function_below_0x80; room = r.room }
+    record { lent = part_lent (is_tenant c.args.asker) _ c.reach.ensures; within_limits = r.within_limits; function_below_0x80 = r.function_below_0x80 }
 
 pub returns : goal.returns
 unfolding directory flat
 returns c =
     let e = c.with_table.ensures in
-    let same = ap (λ (v : View). read_reply v c.args.m.given.order (shown_of c.args.m) c.args.frame.now) (part_view c.args.tenant _ c.reach_for.ensures) in
+    let same = ap (λ (v : View). read_reply v c.args.m.given.order (shown_of c.args.m) c.args.frame.now) (part_view (is_tenant c.args.asker) _ c.reach.ensures) in
     record { value = e.value ∙ ap length same; buffer_after = e.buffer_after ∙ ap (sets c.args.buffer.now 0) same }

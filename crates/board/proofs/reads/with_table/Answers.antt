@@ -1,6 +1,6 @@
 -- Each judgement of a read has its reply, and the items that it asks for stand in a part of the table.
 use lib.ListN.{length}
-use Rattle.std.proofs.Common.{◌≡◌, sym, ap, ◌∙◌, List, ℕ}
+use Rattle.std.proofs.Common.{◌≡◌, sym, ap, ◌∙◌, List, ℕ, arith}
 use lib.Seq.{sets}
 use Rattle.words.specs.declared.Order.{Order}
 use Rattle.directory.specs.declared.Span.{Span}
@@ -22,7 +22,7 @@ pub read_in-requires : goal.read_in-requires
 read_in-requires c = c.requires.lent
 
 pub put_error-requires : goal.put_error-requires
-put_error-requires c = (c.requires.function_below_0x80.0, c.requires.function_below_0x80.1, c.requires.room)
+put_error-requires c = (c.requires.function_below_0x80.0, c.requires.function_below_0x80.1, omega arith)
 
 pub part-asked-requires : goal.part-asked-requires
 part-asked-requires c =
@@ -34,7 +34,7 @@ pub put_data-requires : goal.put_data-requires
 put_data-requires c =
     let found : read_in (view_of c.args.table.now c.args.reach) c.args.frame.now ≡ Items c.in-Items.first c.in-Items.count = sym c.read_in.ensures ∙ c.in-Items.is in
     let asked : AskedPart c.args.table.now c.args.reach c.args.frame.now c.in-Items.first c.in-Items.count = asked_part c.args.table.now c.args.reach c.requires.lent found in
-    rw c.part-asked.ensures (record { items_narrow = asked.narrow; within_limits = c.requires.within_limits; words_as_asked = (asked.long, asked.sends); room = (asked.room, c.requires.room) })
+    rw c.part-asked.ensures (record { items_narrow = asked.narrow; within_limits = c.requires.within_limits; words_as_asked = (asked.long, asked.sends); room = asked.room })
 
 pub returns-in-Error : goal.returns-in-Error
 returns-in-Error c =
