@@ -70,6 +70,16 @@ pub fn read(address: u8, start: u16, words: u8) -> [u8; 8] {
     frame
 }
 
+// A write of the 16 words from 0x2000 on, all 0 but the one at 0x2003 and the one at 0x200a, the window's code.
+pub fn write(address: u8, word: u8, code: u8) -> [u8; 41] {
+    let mut frame = [0; 41];
+    frame[..7].copy_from_slice(&[address, 0x10, 0x20, 0x00, 0x00, 16, 32]);
+    frame[14] = word;
+    frame[28] = code;
+    crc::put(&mut frame, 39);
+    frame
+}
+
 // A frame by its name, and what it is answered with. Hands back the meter after it.
 pub fn send(out: Stdout, m: Meter, name: &str, frame: &[u8]) -> io::Result<Meter> {
     let mut buffer = [0u8; REPLY_ROOM];

@@ -1,7 +1,10 @@
 // A meter's seconds, and what the collector reads of its average, peak and minutes.
 use crate::frames;
-use board::{Answer, Given, Meter, Order, Powers, Ratios, Reply};
+use ask::{Exchange, GIVEN, PLATE, REPLY_ROOM, Unread};
+use board::{Answer, Given, Meter, Powers, Ratios, Sample};
 use collector::{Nameplate, Quantity};
+use say::Told;
+use std::fmt::{self, Display};
 use std::io::{self, Stdout};
 
 // Where the three figures stand, in five words.
@@ -9,104 +12,77 @@ pub const BYTE_BLOCK: u16 = 0x0350;
 
 pub const WORD_BLOCK: u16 = 0x1027;
 
-// A new meter without voltage transformers, which sends the upper word first.
+// A new meter without voltage transformers.
 pub fn new(kta: u16) -> Meter {
     let ratios = Ratios { kta, ktv: 10 };
-    let made = Meter::of(Given {
-        address: 1,
-        second: Given::NO_SECOND,
-        ratios,
-        order: Order::UpperFirst,
-    });
-    made.meter
+    Meter::of(Given { ratios, ..GIVEN }).meter
 }
 
 // Some seconds more, and the figures after them.
-pub fn after(out: Stdout, m: Meter, seconds: u32, l1: i64, name: &[u8]) -> io::Result<Meter> {
+pub fn after(out: Stdout, m: Meter, seconds: u32, l1: i64, name: &str) -> io::Result<Meter> {
     let next = run(out, m, seconds, l1)?;
     show(out, next, WORD_BLOCK, name)?;
     Ok(next)
 }
 
 // The meter after some seconds. Phase 1 has the power given, in hundredths of W; phase 2 rises from 0 by one each second, so that
-// 3-phase P is not constant.
-pub fn run(out: Stdout, m: Meter, seconds: u32, l1: i64) -> io::Result<Meter> {
+// 3-phase P is not constant. Only a refused sample is told.
+fn run(out: Stdout, m: Meter, seconds: u32, l1: i64) -> io::Result<Meter> {
     let mut meter = m;
-    let mut sample = m.latest;
-    let mut k: u32 = 0;
-    while k < seconds {
-        let l2 = k as i64;
-        let p = Powers { l1, l2, l3: 0 };
-        sample.p = p;
-        let answered = meter.after(sample);
+    for second in 0..seconds {
+        let p = Powers {
+            l1,
+            l2: i64::from(second),
+            l3: 0,
+        };
+        let answered = meter.after(Sample { p, ..m.latest });
         meter = answered.meter;
-        let answer = answered.answer;
-        told(out, answer)?;
-        k += 1;
+        if let Answer::Refused(reason) = answered.answer {
+            println!(out; "  a sample, {reason}")?;
+        }
     }
     Ok(meter)
 }
 
-// Only a refused sample is told.
-fn told(out: Stdout, answer: Answer) -> io::Result<()> {
-    if let Answer::Refused(reason) = answer {
-        say::text(out, b"  a sample, ")?;
-        say::refused(out, reason)?;
-        say::end(out)?;
-    }
-    Ok(())
-}
-
 // The three figures by one read.
-pub fn show(out: Stdout, m: Meter, start: u16, name: &[u8]) -> io::Result<()> {
-    say::text(out, name)?;
+pub fn show(out: Stdout, m: Meter, start: u16, name: &str) -> io::Result<()> {
     let request = frames::read(start, 5);
-    let mut buffer = [0u8; ask::REPLY_ROOM];
-    let handled = board::handle(m, &request, &mut buffer);
-    let did = handled.reply;
-    let Reply::Sent(n) = did else {
-        return ask::unanswered(out, did);
+    let mut buffer = [0u8; REPLY_ROOM];
+    let heard = ask::hear(m, &request, &mut buffer);
+    let Ok(Some(reply)) = heard.reply else {
+        return println!(out; "{name}{heard}");
     };
-    three(out, &request, &buffer[..n], m.given.ratios)
-}
-
-fn three(out: Stdout, request: &[u8], reply: &[u8], ratios: Ratios) -> io::Result<()> {
-    say::text(out, b", answered")?;
-    say::bytes(out, reply)?;
-    item(out, b": average ", request, reply, ratios, 0)?;
-    item(out, b", peak ", request, reply, ratios, 1)?;
-    item(out, b", minutes ", request, reply, ratios, 2)?;
-    say::end(out)
+    let exchange = Exchange {
+        request: &request,
+        reply,
+        plate: Nameplate {
+            ratios: m.given.ratios,
+            ..PLATE
+        },
+    };
+    println!(out;
+        "{name}{heard}: average {}, peak {}, minutes {}",
+        item(exchange, 0),
+        item(exchange, 1),
+        item(exchange, 2)
+    )
 }
 
 // One item of a reply, as the collector reads it.
-pub fn item(
-    out: Stdout,
-    name: &[u8],
-    request: &[u8],
-    reply: &[u8],
-    ratios: Ratios,
-    index: usize,
-) -> io::Result<()> {
-    say::text(out, name)?;
-    let plate = Nameplate {
-        ratios,
-        order: Order::UpperFirst,
-    };
-    let answer = collector::read(request, reply, plate, index);
-    match answer {
-        collector::Answer::Reading(quantity) => figure(out, quantity),
-        collector::Answer::Error(code) => say::error(out, code),
-        collector::Answer::Refused(reason) => say::refused(out, reason),
-    }
+pub fn item(exchange: Exchange<'_>, index: usize) -> Told<Figure, Unread> {
+    Told(exchange.item(index).map(Figure))
 }
 
 // A power in hundredths of W, or a plain word: nothing else is asked for.
-fn figure(out: Stdout, quantity: Quantity) -> io::Result<()> {
-    if let Quantity::Power(hundredths) = quantity {
-        say::number(out, hundredths)?;
-    } else if let Quantity::Plain(word) = quantity {
-        say::number(out, word as u64)?;
+#[derive(Clone, Copy)]
+pub struct Figure(Quantity);
+
+impl Display for Figure {
+    fn fmt<W: fmt::Write>(&self, f: &mut fmt::Formatter<W>) -> fmt::Result {
+        match self.0 {
+            Quantity::Power(hundredths) => write!(f, "{hundredths}"),
+            Quantity::Plain(word) => write!(f, "{word}"),
+            _ => Ok(()),
+        }
     }
-    Ok(())
 }

@@ -1,6 +1,7 @@
 // A sample past an energy's top, minutes past a byte, and records at their limits and past them.
 use crate::{figures, frames};
-use board::{Meter, Ratios};
+use ask::{Exchange, PLATE};
+use board::{Average, Meter, Window};
 use std::io::{self, Stdout};
 
 // Of power without transformers, in hundredths of W.
@@ -10,51 +11,48 @@ const LIMIT: u64 = 4_294_967_295;
 pub fn energy_top(out: Stdout) -> io::Result<()> {
     let mut m = figures::new(1);
     m.counters.active.positive.wh.0 = Meter::WH_TOP;
-    let full = figures::after(out, m, 300, 500, b"+Ea at its top, 300 seconds")?;
-    let open = figures::after(out, full, 299, 100, b"599 seconds")?;
-    let same = figures::after(out, open, 1, 200_000, b"  after it")?;
-    figures::after(out, same, 1, 0, b"600 seconds")?;
+    let full = figures::after(out, m, 300, 500, "+Ea at its top, 300 seconds")?;
+    let open = figures::after(out, full, 299, 100, "599 seconds")?;
+    let same = figures::after(out, open, 1, 200_000, "  after it")?;
+    figures::after(out, same, 1, 0, "600 seconds")?;
     Ok(())
 }
 
 // Minutes whose upper byte is not 0 are no B, and a plain word elsewhere.
 pub fn minutes(out: Stdout) -> io::Result<()> {
-    upper_byte(out, b"0x0104 at 0x0358: ", 0x0358)?;
-    upper_byte(out, b"0x0104 at 0x102b: ", 0x102B)
+    upper_byte(out, 0x0358)?;
+    upper_byte(out, 0x102B)
 }
 
-fn upper_byte(out: Stdout, name: &[u8], start: u16) -> io::Result<()> {
-    let request = frames::read(start, 1);
-    let reply = b"\x01\x03\x02\x01\x04\xB8\x17";
-    figures::item(out, name, &request, reply, Ratios { kta: 1, ktv: 10 }, 0)?;
-    say::end(out)
+fn upper_byte(out: Stdout, start: u16) -> io::Result<()> {
+    let exchange = Exchange {
+        request: &frames::read(start, 1),
+        reply: b"\x01\x03\x02\x01\x04\xB8\x17",
+        plate: PLATE,
+    };
+    println!(out; "0x0104 at 0x{start:04x}: {}", figures::item(exchange, 0))
 }
 
-// Figures at their limits, and each of them one past.
+// Figures at their limits, and each of them one past: the seconds and the sum of the open window, the average and the peak.
 pub fn records(out: Stdout) -> io::Result<()> {
-    record(out, 299, 299 * LIMIT, LIMIT, LIMIT, b"at the limits")?;
-    record(out, 300, 0, 0, 0, b"300 open seconds at code 0")?;
-    record(out, 10, 10 * LIMIT + 1, 0, 0, b"an open sum past 10 limits")?;
-    record(out, 0, 0, 1, 0, b"an average past the peak")?;
-    record(out, 0, 0, 0, LIMIT + 1, b"a peak past the limit")
+    record(out, 299, 299 * LIMIT, LIMIT, LIMIT, "at the limits")?;
+    record(out, 300, 0, 0, 0, "300 open seconds at code 0")?;
+    record(out, 10, 10 * LIMIT + 1, 0, 0, "an open sum past 10 limits")?;
+    record(out, 0, 0, 1, 0, "an average past the peak")?;
+    record(out, 0, 0, 0, LIMIT + 1, "a peak past the limit")
 }
 
 // A sample of 0 and a frame, to a meter with these figures.
-fn record(
-    out: Stdout,
-    seconds: u16,
-    sum: u64,
-    last: u64,
-    peak: u64,
-    name: &[u8],
-) -> io::Result<()> {
-    let mut m = figures::new(1);
-    m.average.window.seconds = seconds;
-    m.average.window.sum = sum;
-    m.average.last = last;
-    m.average.peak = peak;
-    say::text(out, name)?;
-    say::end(out)?;
-    figures::after(out, m, 1, 0, b"  a frame")?;
+fn record(out: Stdout, seconds: u16, sum: u64, last: u64, peak: u64, name: &str) -> io::Result<()> {
+    println!(out; "{name}")?;
+    let m = Meter {
+        average: Average {
+            window: Window { seconds, sum },
+            last,
+            peak,
+        },
+        ..figures::new(1)
+    };
+    figures::after(out, m, 1, 0, "  a frame")?;
     Ok(())
 }

@@ -26,8 +26,9 @@ fn main(rt: HostRuntime) -> io::Result<()> {
 // Reads of a new meter that end inside the average and behind it, at the end of the byte block and past it.
 fn longer_directory(out: Stdout) -> io::Result<()> {
     let m = figures::new(1);
-    frames::ask(out, m, 0x034D, 4, b"4 words from 0x034d")?;
-    frames::ask(out, m, 0x034D, 5, b"5 words from 0x034d")?;
-    frames::ask(out, m, 0x0300, 69, b"69 words from 0x0300")?;
-    frames::ask(out, m, 0x0300, 70, b"70 words from 0x0300")
+    ask::send(out, m, "4 words from 0x034d", &frames::read(0x034D, 4))?;
+    ask::send(out, m, "5 words from 0x034d", &frames::read(0x034D, 5))?;
+    ask::send(out, m, "69 words from 0x0300", &frames::read(0x0300, 69))?;
+    ask::send(out, m, "70 words from 0x0300", &frames::read(0x0300, 70))?;
+    Ok(())
 }
