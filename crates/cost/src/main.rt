@@ -7,42 +7,24 @@ mod frames;
 mod once;
 mod readings;
 
-ghost use Rattle.std.specs.Prelude.{◌≤◌, length, IfOk};
+use arrayvec::ArrayVec;
+use std::io::{self, Read};
 
-use std::io::{self, Read, Stdin, Stdout};
+const ROOM: usize = 256;
 
 fn main(rt: HostRuntime) -> io::Result<()> {
     let out = rt.stdout();
-    let mut buf = [0u8; 256];
-    let n = read_full(rt.stdin(), &mut buf)?;
-    hex(out, frames::answered(&buf[..n]) as u64)?;
-    hex(out, readings::collected(&buf[..n], false))?;
-    hex(out, readings::collected(&buf[..n], true))?;
-    hex(out, bytes::sealed(&mut buf, n) as u64)?;
-    hex(out, bytes::hosted(&mut buf, n) as u64)?;
-    say::number(out, figures::counted())?;
-    say::end(out)?;
-    hex(out, once::each())?;
-    hex(out, once::whole())
-}
-
-// Reads until the buffer is full or the input ends, and answers how many bytes it put at the buffer's start.
-fn read_full(mut input: Stdin, buffer: &mut [u8]) -> io::Result<usize>
-    ensures { IfOk result (λ n. n ≤ length buffer.new) }
-{
-    let mut filled: usize = 0;
-    while filled < buffer.len() {
-        let n = input.read(&mut buffer[filled..])?;
-        if n == 0 {
-            break;
-        }
-        filled += n;
-    }
-    Ok(filled)
-}
-
-// A line with a number in hexadecimal.
-fn hex(out: Stdout, n: u64) -> io::Result<()> {
-    say::hex(out, n, 2)?;
-    say::end(out)
+    let mut input = ArrayVec::<u8, ROOM>::new();
+    io::copy(&mut rt.stdin().take(ROOM as u64), &mut input)?;
+    let frame = input.as_slice();
+    println!(out; "{:02x}", frames::answered(frame))?;
+    println!(out; "{:02x}", readings::collected(frame, readings::one_by_one))?;
+    println!(out; "{:02x}", readings::collected(frame, readings::wholly))?;
+    let mut buf = [0u8; ROOM];
+    buf[..frame.len()].copy_from_slice(frame);
+    println!(out; "{:02x}", bytes::sealed(&mut buf, frame.len()))?;
+    println!(out; "{:02x}", bytes::hosted(&mut buf, frame.len()))?;
+    println!(out; "{}", figures::counted())?;
+    println!(out; "{:02x}", once::each())?;
+    println!(out; "{:02x}", once::whole())
 }

@@ -1,8 +1,7 @@
 // A collector that reads the items of a meter's reply to the frame on standard input, one by one or by one call, again and again.
 use crate::figures;
-use board::Reply;
-use collector::{Answer, Nameplate, Order, Quantity, Whole};
-use ratio::Ratios;
+use ask::{PLATE, REPLY_ROOM};
+use collector::{Answer, Quantity, Whole};
 
 const READ_TURNS: u32 = 1000;
 
@@ -13,38 +12,25 @@ const READ_FROM: usize = 0;
 
 const READ_ITEMS: usize = 28;
 
-// What the collector is told of the meter.
-pub fn plate() -> Nameplate {
-    let ratios = Ratios { kta: 1, ktv: 10 };
-    Nameplate {
-        ratios,
-        order: Order::UpperFirst,
+// What is read, again and again, of a meter's reply to a request.
+pub fn collected<F>(request: &[u8], read: F) -> u64
+where
+    F: Fn(&[u8], &[u8]) -> u64,
+    requires { F.IsAlwaysCallable read }
+{
+    let mut buffer = [0u8; REPLY_ROOM];
+    match ask::hear(figures::new(), request, &mut buffer).reply {
+        Ok(Some(reply)) => read(request, reply),
+        _ => 0,
     }
 }
 
-pub fn collected(request: &[u8], whole: bool) -> u64 {
-    let mut buffer = [0u8; 256];
-    let handled = board::handle(figures::new(), request, &mut buffer);
-    let did = handled.reply;
-    let Reply::Sent(n) = did else {
-        return 0;
-    };
-    let reply = &buffer[..n];
-    if whole {
-        return wholly(request, reply, plate());
-    }
-    again(request, reply, plate())
-}
-
-fn wholly(request: &[u8], reply: &[u8], plate: Nameplate) -> u64 {
+pub fn wholly(request: &[u8], reply: &[u8]) -> u64 {
     let mut values = [0u64; 64];
     let mut kinds = [0u8; 64];
-    let mut sum: u64 = 0;
-    let mut k: u32 = 0;
-    while k < WHOLE_TURNS {
-        let whole = collector::read_whole(request, reply, plate, &mut values, &mut kinds);
-        sum = sum | items(whole);
-        k += 1;
+    let mut sum = 0;
+    for _ in 0..WHOLE_TURNS {
+        sum |= items(collector::read_whole(request, reply, PLATE, &mut values, &mut kinds));
     }
     sum | values[1]
 }
@@ -52,27 +38,23 @@ fn wholly(request: &[u8], reply: &[u8], plate: Nameplate) -> u64 {
 pub fn items(whole: Whole) -> u64 {
     match whole {
         Whole::Items(n) => n as u64,
-        Whole::Error(code) => code.number() as u64,
-        Whole::Refused(reason) => reason.number() as u64,
+        Whole::Error(code) => u64::from(code.number()),
+        Whole::Refused(reason) => u64::from(reason.number()),
     }
 }
 
-fn again(request: &[u8], reply: &[u8], plate: Nameplate) -> u64 {
-    let mut sum: u64 = 0;
-    let mut k: u32 = 0;
-    while k < READ_TURNS {
-        sum = sum | turn(request, reply, plate);
-        k += 1;
+pub fn one_by_one(request: &[u8], reply: &[u8]) -> u64 {
+    let mut sum = 0;
+    for _ in 0..READ_TURNS {
+        sum |= turn(request, reply);
     }
     sum
 }
 
-fn turn(request: &[u8], reply: &[u8], plate: Nameplate) -> u64 {
-    let mut sum: u64 = 0;
-    let mut i: usize = 0;
-    while i < READ_ITEMS {
-        sum = sum | value(collector::read(request, reply, plate, READ_FROM + i));
-        i += 1;
+fn turn(request: &[u8], reply: &[u8]) -> u64 {
+    let mut sum = 0;
+    for index in READ_FROM..READ_FROM + READ_ITEMS {
+        sum |= value(collector::read(request, reply, PLATE, index));
     }
     sum
 }
@@ -80,16 +62,16 @@ fn turn(request: &[u8], reply: &[u8], plate: Nameplate) -> u64 {
 pub fn value(a: Answer) -> u64 {
     match a {
         Answer::Reading(q) => first_of(q),
-        Answer::Error(code) => code.number() as u64,
-        Answer::Refused(reason) => reason.number() as u64,
+        Answer::Error(code) => u64::from(code.number()),
+        Answer::Refused(reason) => u64::from(reason.number()),
     }
 }
 
 // Of the others it is enough to know that they were read.
 fn first_of(q: Quantity) -> u64 {
     match q {
-        Quantity::Energy { count, step, wh } => count.0 as u64 | step as u64 | wh.0,
-        Quantity::Plain(v) => v as u64,
+        Quantity::Energy { count, step, wh } => u64::from(count.0) | u64::from(step) | wh.0,
+        Quantity::Plain(v) => u64::from(v),
         _ => 1,
     }
 }

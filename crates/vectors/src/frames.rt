@@ -11,9 +11,9 @@ struct Frame {
     bytes: &'static [u8],
 }
 
-// 001's answer of 0x2000 has 16 words, in spite of the 16 BYTES beside its table. A meter that was sent the words of 0x2200
-// answers 24, with the printed CRC. So the words of 001's answers are written to a meter, and then read.
-static OF_001: [Frame; 4] = [
+// The words of 001's answers, written to a meter, and then read. 001's answer of 0x2000 has 16 words, in spite of the 16 BYTES beside
+// its table. A meter that was sent the words of 0x2200 answers 24, with the printed CRC.
+static SETUP: [Frame; 4] = [
     Frame {
         name: "write to 0x2000",
         bytes: b"\xFF\x10\x20\x00\x00\x10\x20\x00\x00\x00\x05\x00\x00\x00\x03\x00\x0A\x00\x00\x00\x00\x00\x00\x00\x01\x00\x01\x00\x00\x00\x00\x00\x03\x00\x02\x00\x01\x00\x00\x5D\x23",
@@ -50,10 +50,7 @@ const MISPRINTED: [u8; 2] = [0x6D, 0xC1];
 
 pub fn examples(out: Stdout) -> io::Result<()> {
     measured(out)?;
-    let mut meter = meters::made(0xFF, DIRECT);
-    for frame in &OF_001 {
-        meter = exchange(out, meter, frame.name, frame.bytes)?;
-    }
+    of_001(out)?;
     for frame in &MISPRINTS {
         misprint(out, frame)?;
     }
@@ -81,6 +78,15 @@ fn measured(out: Stdout) -> io::Result<()> {
     ];
     for (name, meter, frame) in reads {
         exchange(out, meter, name, frame)?;
+    }
+    Ok(())
+}
+
+// One meter answers all four.
+fn of_001(out: Stdout) -> io::Result<()> {
+    let mut meter = meters::made(0xFF, DIRECT);
+    for frame in &SETUP {
+        meter = exchange(out, meter, frame.name, frame.bytes)?;
     }
     Ok(())
 }

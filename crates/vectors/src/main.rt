@@ -11,9 +11,8 @@ use std::io::{self, Stdout};
 fn main(rt: HostRuntime) -> io::Result<()> {
     let out = rt.stdout();
     frames::examples(out)?;
-    for value in [1_000, 100_000] {
-        sent(out, value)?;
-    }
+    sent(out, 1_000)?;
+    sent(out, 100_000)?;
     for (kta, ktv) in [(1, 99), (10, 10), (4_999, 10), (5_000, 10)] {
         follow(out, Ratios { kta, ktv })?;
     }

@@ -6,14 +6,11 @@ use std::io::{self, Stdout};
 
 pub fn examples(out: Stdout) -> io::Result<()> {
     three_phases(out)?;
-    for hundredths in [-150, -50] {
-        power(out, hundredths)?;
-    }
+    power(out, -150)?;
+    power(out, -50)?;
     factor(out, -985)?;
-    for wh in [1_999, 100_000_000_000] {
-        energy(out, wh)?;
-    }
-    Ok(())
+    energy(out, 1_999)?;
+    energy(out, 100_000_000_000)
 }
 
 // A new meter. Paper 01's examples have the upper word first.
