@@ -17,17 +17,6 @@ use Rattle.average.specs.Fits.{Joins}
 
 -- ---- the seconds of a window
 
-pub coded_beyond : (code : ℕ) → 6 ≤ code → coded_minutes code ≡ 60
-unfolding coded_minutes
-coded_beyond zero h = absurd (omega arith)
-coded_beyond (suc zero) h = absurd (omega arith)
-coded_beyond (suc (suc zero)) h = absurd (omega arith)
-coded_beyond (suc (suc (suc zero))) h = absurd (omega arith)
-coded_beyond (suc (suc (suc (suc zero)))) h = absurd (omega arith)
-coded_beyond (suc (suc (suc (suc (suc zero))))) h = absurd (omega arith)
-coded_beyond (suc (suc (suc (suc (suc (suc zero)))))) h = refl
-coded_beyond (suc (suc (suc (suc (suc (suc (suc code))))))) h = refl
-
 pub coded_fits : (code : ℕ) → (5 ≤ coded_minutes code) × (coded_minutes code ≤ 60)
 unfolding coded_minutes
 coded_fits zero = (omega arith, omega arith)

@@ -3,7 +3,7 @@
 #![tactic(auto)]
 
 ghost use Rattle.std.specs.Prelude.{◌≡◌, ◌<◌};
-ghost use Rattle.average.specs.Windows.{coded_minutes, window_seconds, no_window, no_average, joined_by, mean_of, larger, closed_by, after_second, recoded_by, minutes_of, average_ok};
+ghost use Rattle.average.specs.Windows.{coded_minutes, window_seconds, no_average, joined_by, mean_of, closed_by, after_second, recoded_by, minutes_of, average_ok};
 ghost use Rattle.average.specs.Fits.{Joins};
 
 use signed::Signed;
@@ -11,8 +11,8 @@ use signed::Signed;
 // In seconds.
 const A_MINUTE: u16 = 60;
 
-// The open window.
-#[derive(Clone, Copy)]
+// The open window. By default it is just opened, and no second has joined it.
+#[derive(Clone, Copy, Debug, Default, PartialEq, Eq)]
 pub struct Window {
     // How many seconds have joined it.
     pub seconds: u16,
@@ -21,13 +21,6 @@ pub struct Window {
 }
 
 impl Window {
-    // A window that no second has joined.
-    fn blank() -> Window
-        ensures { result ≡ no_window }
-    {
-        Window { seconds: 0, sum: 0 }
-    }
-
     // The window with one second more. A negative P adds 0 to its sum.
     fn joined(self, p: Signed) -> Window
         requires { Joins self p }
@@ -44,12 +37,11 @@ impl Window {
         requires { 0 < self.seconds }
         ensures { result ≡ mean_of self }
     {
-        let seconds = self.seconds as u64;
-        self.sum / seconds
+        self.sum / u64::from(self.seconds)
     }
 }
 
-#[derive(Clone, Copy)]
+#[derive(Clone, Copy, Debug, Default, PartialEq, Eq)]
 pub struct Average {
     pub window: Window,
     // The average of the last full window; 0 while there is none.
@@ -63,36 +55,33 @@ impl Average {
     pub fn blank() -> Average
         ensures { result ≡ no_average }
     {
-        Average {
-            window: Window::blank(),
-            last: 0,
-            peak: 0,
-        }
+        Average::default()
     }
 
     // Whether the figures are within limits at a ratio of t tenths, in windows of the code at 0x200a.
+    #[tactic(auto, unfolding(crate::specs::Windows::average_ok))]
     pub fn within(self, t: u32, code: u16) -> bool
         ensures { result ≡ average_ok t code self }
     {
         let limit = ratio::power_limit(t);
-        (self.window.seconds < window_seconds(code))
-            & (self.window.sum <= self.window.seconds as u64 * limit)
-            & (self.last <= self.peak)
-            & (self.peak <= limit)
+        self.window.seconds < window_seconds(code)
+            && self.window.sum <= u64::from(self.window.seconds) * limit
+            && self.last <= self.peak
+            && self.peak <= limit
     }
 
     // The figures after one more second. The second that fills the window closes it and opens the next.
+    #[tactic(auto, unfolding(crate::specs::Windows::after_second))]
     pub fn after(self, code: u16, p: Signed) -> Average
         requires { Joins self.window p }
         ensures { result ≡ after_second code self p }
     {
         let window = self.window.joined(p);
         if window.seconds < window_seconds(code) {
-            let mut next = self;
-            next.window = window;
-            return next;
+            Average { window, ..self }
+        } else {
+            self.closed(window)
         }
-        self.closed(window)
     }
 
     // The figures after a full window.
@@ -102,9 +91,9 @@ impl Average {
     {
         let mean = full.mean();
         Average {
-            window: Window::blank(),
+            window: Window::default(),
             last: mean,
-            peak: larger_of(self.peak, mean),
+            peak: self.peak.max(mean),
         }
     }
 
@@ -113,11 +102,13 @@ impl Average {
         ensures { result ≡ recoded_by before after self }
     {
         if before == after {
-            return self;
+            self
+        } else {
+            Average {
+                window: Window::default(),
+                ..self
+            }
         }
-        let mut next = self;
-        next.window = Window::blank();
-        next
     }
 
     // The whole minutes of the open window.
@@ -128,13 +119,9 @@ impl Average {
     }
 }
 
-fn larger_of(a: u64, b: u64) -> u64
-    ensures { result ≡ larger a b }
-{
-    if a < b { b } else { a }
-}
-
 // The minutes of a window by its code. The setup's ranges let no code above 6 through.
+// The code stays a number, the word at 0x200a as a write stores it: in a record out of limits it may be any.
+#[tactic(auto, unfolding(crate::specs::Windows::coded_minutes))]
 fn coded_minutes(code: u16) -> u16
     ensures { result ≡ coded_minutes code }
 {
@@ -150,6 +137,7 @@ fn coded_minutes(code: u16) -> u16
 }
 
 // The accepted samples that fill a window, one a second.
+#[tactic(auto, using(crate::proofs::Limits::coded_fits))]
 fn window_seconds(code: u16) -> u16
     ensures { result ≡ window_seconds code }
 {

@@ -12,8 +12,8 @@ use Rattle.ratio.specs.Ratios.{ratios_ok, t_of}
 use Rattle.ratio.specs.Steps.{step_of}
 use Rattle.ratio.proofs.Steps.{step_laws}
 use Rattle.counts.specs.declared.WattHours.{WattHours}
-use Rattle.counts.specs.declared.Joined.{Joined}
-use Rattle.counts.specs.declared.Joined.TheVariants.{Energy, Refused}
+use Rattle.refusal.specs.declared.Refusal.{Refusal}
+use Rattle.std.specs.Prelude.{Result, Ok, Err}
 use Rattle.counts.specs.Counting.{count_of, register_of, wrap_of, low_of, high_of, join_of, join_halves_of, top_wh, rounded_of, top_count, top_low, top_high, join_told, JoinSplit}
 
 wrap : (t : ℕ) (e : WattHours) → e.0 ≤ top_wh → wrap_of t e < 65536
@@ -37,12 +37,12 @@ counts_fit = record {
   high = λ e h. omega arith;
 }
 
-counts : (r : Ratios) (e : WattHours) → ratios_ok r ≡ true → join_of r (register_of (t_of r) e) (wrap_of (t_of r) e) ≡ Energy (rounded_of (t_of r) e)
+counts : (r : Ratios) (e : WattHours) → ratios_ok r ≡ true → join_of r (register_of (t_of r) e) (wrap_of (t_of r) e) ≡ Ok (rounded_of (t_of r) e)
 unfolding join_of
 counts r e ok =
     simp (ok, le-ltb top_count _ (counts_fit.register (t_of r) e), div-add-mod' (count_of (t_of r) e) 100000000)
 
-halves : (e : WattHours) → e.0 ≤ top_wh → join_halves_of (low_of e) (high_of e) ≡ Energy e
+halves : (e : WattHours) → e.0 ≤ top_wh → join_halves_of (low_of e) (high_of e) ≡ Ok e
 unfolding join_halves_of
 halves e h =
     simp (le-ltb top_low _ (counts_fit.low e), le-ltb top_high _ (counts_fit.high e h), div-add-mod' e.0 1000000)
@@ -56,8 +56,8 @@ join_split = record {
 }
 
 -- the numbers of a join give it back
-pub join_back : (a b : Joined) → join_told a ≡ join_told b → a ≡ b
-join_back (Energy x) (Energy y) e = ap (λ (n : ℕ). Energy (record { 0 = n })) (ap number_in e)
-join_back (Energy x) (Refused r) e = absurd (omega (arith, ap case_in e))
-join_back (Refused r) (Energy x) e = absurd (omega (arith, ap case_in e))
-join_back (Refused r) (Refused s) e = ap Refused (one_reason_each.refusals r s (ap number_in e))
+pub join_back : (a b : Result WattHours Refusal) → join_told a ≡ join_told b → a ≡ b
+join_back (Ok x) (Ok y) e = ap (λ (n : ℕ). Ok (record { 0 = n })) (ap number_in e)
+join_back (Ok x) (Err r) e = absurd (omega (arith, ap case_in e))
+join_back (Err r) (Ok x) e = absurd (omega (arith, ap case_in e))
+join_back (Err r) (Err s) e = ap Err (one_reason_each.refusals r s (ap number_in e))

@@ -9,7 +9,7 @@ use ratio::Ratios;
 use refusal::Refusal;
 
 // What an energy register shows, in steps. It is no energy until a step is applied.
-#[derive(Clone, Copy)]
+#[derive(Clone, Copy, Debug, PartialEq, Eq, PartialOrd, Ord)]
 pub struct Count(pub u32);
 
 impl Count {
@@ -23,12 +23,12 @@ impl Count {
     pub fn energy(self, t: u32) -> WattHours
         ensures { result ≡ energy_of t self.0 }
     {
-        stepped(self.0 as u64, t)
+        stepped(u64::from(self.0), t)
     }
 }
 
 // Whole Wh, or for a reactive energy varh: what is said of Wh here is meant of varh too.
-#[derive(Clone, Copy)]
+#[derive(Clone, Copy, Debug, PartialEq, Eq, PartialOrd, Ord)]
 pub struct WattHours(pub u64);
 
 impl WattHours {
@@ -44,7 +44,7 @@ impl WattHours {
     fn count(self, t: u32) -> u64
         ensures { result ≡ count_of t self }
     {
-        self.0 / ratio::energy_step(t) as u64
+        self.0 / u64::from(ratio::energy_step(t))
     }
 
     // What the energy register shows at T.
@@ -81,37 +81,32 @@ fn stepped(count: u64, t: u32) -> WattHours
     requires { count ≤ 6553599999999 }
     ensures { result ≡ energy_of t count }
 {
-    WattHours(count * ratio::energy_step(t) as u64)
-}
-
-// What a join gives.
-#[derive(Clone, Copy)]
-pub enum Joined {
-    Energy(WattHours),
-    Refused(Refusal),
+    WattHours(count * u64::from(ratio::energy_step(t)))
 }
 
 // The energy of a register count and its wrap word, told the ratios of the meter.
-pub fn join(ratios: Ratios, count: Count, wrap: u16) -> Joined
+#[tactic(auto, unfolding(crate::specs::Counting::join_of))]
+pub fn join(ratios: Ratios, count: Count, wrap: u16) -> Result<WattHours, Refusal>
     ensures { result ≡ join_of ratios count wrap }
 {
     if !ratios.within() {
-        return Joined::Refused(Refusal::RatioOutOfLimits);
+        return Err(Refusal::RatioOutOfLimits);
     }
     if Count::TOP < count.0 {
-        return Joined::Refused(Refusal::JoinPastTop);
+        return Err(Refusal::JoinPastTop);
     }
-    let counts = wrap as u64 * Count::TURN + count.0 as u64;
-    Joined::Energy(stepped(counts, ratios.tenths()))
+    let counts = u64::from(wrap) * Count::TURN + u64::from(count.0);
+    Ok(stepped(counts, ratios.tenths()))
 }
 
 // The energy of a Low, in Wh, and its High, in MWh.
-pub fn join_halves(low: u32, high: u32) -> Joined
+#[tactic(auto, unfolding(crate::specs::Counting::join_halves_of))]
+pub fn join_halves(low: u32, high: u32) -> Result<WattHours, Refusal>
     ensures { result ≡ join_halves_of low high }
 {
-    if (WattHours::LOW_TOP < low) | (WattHours::HIGH_TOP < high) {
-        return Joined::Refused(Refusal::JoinPastTop);
+    if WattHours::LOW_TOP < low || WattHours::HIGH_TOP < high {
+        return Err(Refusal::JoinPastTop);
     }
-    let wh = high as u64 * WattHours::MEGA + low as u64;
-    Joined::Energy(WattHours(wh))
+    let wh = u64::from(high) * WattHours::MEGA + u64::from(low);
+    Ok(WattHours(wh))
 }

@@ -1,20 +1,18 @@
--- What is left of a line, at a place of the input: nothing at a line feed and behind the input, else one byte more than behind the place.
+-- The length of a line is the place of the first line feed, or the length of what is left where there is none.
 use lib.ListN.{length, get_or, drop, drop_of_length-le}
-use Rattle.std.proofs.Common.{◌≡◌, List, ℕ, ◌+◌, ◌≤◌, ◌<◌, add-one}
-use lib.Seq.{drop-cons}
+use Rattle.std.proofs.Common.{◌≡◌, refl, ◌∙◌, List, ℕ, ◌≤◌, ◌<◌}
+use lib.Dec.{eqb}
+use Rattle.std.proofs.lemmas.List.Recursion.{is_position_or_len}
+use Rattle.std.proofs.lemmas.List.Sums.{position_or_len_is}
 use borrow.Author.Tests.{eq-eqb, ne_eqb}
 use Rattle.lines.specs.Lines.{line_length}
 
-pub stops : (input : List ℕ) (i : ℕ) → i < length input → get_or input i 0 ≡ 0x0A → line_length (drop i input) ≡ 0
+pub line_is : (l : List ℕ) (n : ℕ) → n ≤ length l → ((k : ℕ) → k < n → get_or l k 0 ≡ 0x0A → ⊥) → (n < length l → get_or l n 0 ≡ 0x0A) → line_length l ≡ n
 unfolding line_length
-stops input i h e = rw (drop-cons input i 0 h, eq-eqb (get_or input i 0) 0x0A e)
+line_is l n within before found =
+    is_position_or_len line_length (λ c. eqb c 0x0A) refl (λ c cs. refl) l
+    ∙ position_or_len_is (λ c. eqb c 0x0A) l n 0 within (λ k h. ne_eqb (get_or l k 0) 0x0A (before k h)) (λ h. eq-eqb (get_or l n 0) 0x0A (found h))
 
-pub goes : (input : List ℕ) (i : ℕ) → i < length input → (get_or input i 0 ≡ 0x0A → ⊥) → line_length (drop i input) ≡ 1 + line_length (drop (i + 1) input)
+pub none_left : (l : List ℕ) (i : ℕ) → length l ≤ i → line_length (drop i l) ≡ 0
 unfolding line_length
-goes input i h e = rw (add-one, drop-cons input i 0 h, ne_eqb (get_or input i 0) 0x0A e)
-
-pub ended : (input : List ℕ) (i : ℕ) → length input ≤ i → line_length (drop i input) ≡ 0
-unfolding line_length
-ended input i h = rw (drop_of_length-le input h)
-
-pub ruleset ends = (stops, goes, ended)
+none_left l i h = rw (drop_of_length-le l h)

@@ -1,13 +1,32 @@
 -- A byte's pair is a hex pair of that byte, so its text is read back; it is two characters, and three for each further byte.
 use mathlib.Core.Path.{◌≡◌, refl}
 use mathlib.Core.Bool.{true}
-use mathlib.Core.List.{List, [], ◌∷◌}
-use Prim.Native.Nat.{ℕ, suc, ◌-◌, ◌*◌, ◌<◌}
+use mathlib.Core.List.{List, [], ◌∷◌, ◌++◌}
+use Prim.Native.Nat.{ℕ, suc, ◌+◌, ◌-◌, ◌*◌, ◌<◌}
 use native.Mathlib.Omega.{arith}
-use lib.ListN.{length, get_or}
+use lib.ListN.{length, get_or, drop}
+use lib.Seq.{drop-cons}
+use Rattle.digits.specs.Hex.{pair_of}
 use Rattle.digits.proofs.Pairs.{pair_good, pair_same}
 use Rattle.lines.specs.Lines.{pairs_ok, bytes_of, line_ok, text_of, TextBack}
 use Rattle.lines.proofs.Laws.{pairs_line}
+
+-- the text of what follows a byte
+unfoldable pub spaced : List ℕ → List ℕ
+spaced [] = []
+spaced (b ∷ bs) = 0x20 ∷ text_of (b ∷ bs)
+
+pub text_first : (b : ℕ) (bs : List ℕ) → text_of (b ∷ bs) ≡ pair_of b ++ spaced bs
+unfolding text_of spaced
+text_first b [] = refl
+text_first b (c ∷ bs) = refl
+
+-- the text of a byte and others, by the space behind the byte
+pub spaced_more : (bs : List ℕ) (i : ℕ) → i < length bs → spaced (drop i bs) ≡ 0x20 ∷ pair_of (get_or bs i 0) ++ spaced (drop (i + 1) bs)
+unfolding spaced
+spaced_more bs i h =
+    let next : suc i ≡ i + 1 = omega arith in
+    rw (drop-cons bs i 0 h, next, text_first (get_or bs i 0) (drop (i + 1) bs)) refl
 
 pub text_length_lem : (bytes : List ℕ) → length (text_of bytes) ≡ 3 * length bytes - 1
 unfolding text_of

@@ -9,7 +9,7 @@ use crate::Meter;
 use counts::WattHours;
 use signed::Signed;
 
-#[derive(Clone, Copy)]
+#[derive(Clone, Copy, Debug, PartialEq, Eq)]
 pub struct Energy {
     // Whole Wh or varh.
     pub wh: WattHours,
@@ -29,7 +29,7 @@ impl Energy {
         requires { (self.wh.0 ≤ top_wh) × (power ≤ top_power) }
         ensures { result ≡ plus_of self power }
     {
-        let sum = self.remainder as u64 + power;
+        let sum = u64::from(self.remainder) + power;
         Energy {
             wh: WattHours(self.wh.0 + sum / Meter::ONE_WH),
             remainder: (sum % Meter::ONE_WH) as u32,
@@ -38,7 +38,8 @@ impl Energy {
 }
 
 // The energies of the two directions: +Ea and -Ea, or +Er and -Er.
-#[derive(Clone, Copy)]
+// Limits and sums stand on each level, which names its parts: one pass over a list of the four would not say which energy grows.
+#[derive(Clone, Copy, Debug, PartialEq, Eq)]
 pub struct Energies {
     pub positive: Energy,
     pub negative: Energy,
@@ -59,6 +60,7 @@ impl Energies {
     }
 
     // The energies after one more second at a 3-phase power: its sign says which one grows.
+    // `Room` stays a clause: it is of energies and power together, and two functions ask it, one for the other.
     pub(crate) fn plus(self, power: Signed) -> Energies
         requires { Room self power }
         ensures { result ≡ with_power self power }
@@ -71,7 +73,7 @@ impl Energies {
 }
 
 // All that a meter counts: the active and the reactive energies.
-#[derive(Clone, Copy)]
+#[derive(Clone, Copy, Debug, PartialEq, Eq)]
 pub struct Counters {
     pub active: Energies,
     pub reactive: Energies,
@@ -79,6 +81,7 @@ pub struct Counters {
 
 impl Counters {
     // The counters of a new meter: every energy and every remainder 0.
+    // Stays by hand: an energy has no default, since one of 0 is a new meter's alone.
     pub(crate) fn blank() -> Counters
         ensures { result ≡ no_counters }
     {

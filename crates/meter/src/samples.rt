@@ -7,7 +7,7 @@ use crate::Meter;
 use signed::Signed;
 
 // P or Q of each phase, in hundredths of W or var.
-#[derive(Clone, Copy)]
+#[derive(Clone, Copy, Debug, Default, PartialEq, Eq)]
 pub struct Powers {
     pub l1: i64,
     pub l2: i64,
@@ -18,18 +18,18 @@ impl Powers {
     fn phases_within(self, limit: u64) -> bool
         ensures { result ≡ phases_ok limit self }
     {
-        let one = Signed::of(self.l1);
-        let two = Signed::of(self.l2);
-        let three = Signed::of(self.l3);
-        (one.magnitude <= limit) & (two.magnitude <= limit) & (three.magnitude <= limit)
+        (self.l1.unsigned_abs() <= limit)
+            & (self.l2.unsigned_abs() <= limit)
+            & (self.l3.unsigned_abs() <= limit)
     }
 
     // The sum of all three phases, which the power limit is for. Phases are added nowhere else.
+    // `Held` stays a clause: two functions ask it, one for the other, and a sample within limits tells it.
     fn sum(self) -> Signed
         requires { Held self }
         ensures { result ≡ sum_of self }
     {
-        Signed::of(self.l1 + self.l2 + self.l3)
+        Signed::from(self.l1 + self.l2 + self.l3)
     }
 
     // The 3-phase power that is shown and counted: the sum of all three phases.
@@ -49,13 +49,12 @@ impl Powers {
         if !self.phases_within(limit) {
             return false;
         }
-        let sum = self.sum();
-        sum.magnitude <= limit
+        self.sum().magnitude <= limit
     }
 }
 
 // A power factor, in thousandths.
-#[derive(Clone, Copy)]
+#[derive(Clone, Copy, Debug, Default, PartialEq, Eq)]
 pub struct Factor(pub i16);
 
 impl Factor {
@@ -63,11 +62,11 @@ impl Factor {
     pub fn signed(self) -> Signed
         ensures { result ≡ factor_of self }
     {
-        Signed::of(self.0 as i64)
+        Signed::from(i64::from(self.0))
     }
 }
 
-#[derive(Clone, Copy)]
+#[derive(Clone, Copy, Debug, PartialEq, Eq)]
 pub struct Sample {
     // In mV: L1, L2, L3, then chained L1-L2, L2-L3, L3-L1, in the order of the quantities of the directory.
     pub voltages: [u32; 6],
@@ -89,22 +88,17 @@ pub struct Sample {
 }
 
 impl Sample {
-    // The sample of a new meter: 0, except sequence 1.
+    // The sample of a new meter: 0, except sequence 1. Stays by hand: a default's sequence, 0, would be out of limits.
     pub(crate) fn blank() -> Sample
         ensures { result ≡ no_sample }
     {
-        let idle = Powers {
-            l1: 0,
-            l2: 0,
-            l3: 0,
-        };
         Sample {
-            voltages: [0u32; 6],
-            currents: [0u32; 4],
-            p: idle,
-            q: idle,
+            voltages: [0; 6],
+            currents: [0; 4],
+            p: Powers::default(),
+            q: Powers::default(),
             s: 0,
-            factor: Factor(0),
+            factor: Factor::default(),
             sector: 0,
             sequence: 1,
             frequency: 0,
@@ -115,11 +109,10 @@ impl Sample {
     pub(crate) fn within(self, t: u32) -> bool
         ensures { result ≡ sample_ok t self }
     {
-        let factor = self.factor.signed();
         self.p.within(t)
             & self.q.within(t)
             & (self.s <= ratio::power_limit(t))
-            & (factor.magnitude <= Meter::FACTOR_TOP)
+            & (self.factor.signed().magnitude <= Meter::FACTOR_TOP)
             & (self.sector <= Meter::SECTOR_TOP)
             & ((self.sequence == 1) | (self.sequence == 2))
     }

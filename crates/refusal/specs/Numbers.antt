@@ -1,10 +1,11 @@
 -- Paper 01, "Refusal numbers", row by row, paper 02's number behind them (request 4), and the error codes of documents 000, 001, 003 and
 -- 004 ("Error codes").
-use Rattle.std.specs.Prelude.{◌≡◌, ℕ, List, [], ◌∷◌}
+use Rattle.std.specs.Prelude.{◌≡◌, ◌↔◌, ℕ, List, [], ◌∷◌, Result, Ok, Err, cond, eqb}
 use Rattle.refusal.specs.declared.Refusal.{Refusal}
 use Rattle.refusal.specs.declared.Refusal.TheVariants.{MeterOutOfLimits, BufferShort, RatioOutOfLimits, OwnAddressZero, SampleOutOfLimits, EnergyPastTop, NotARead, ReplyLength, ReplyCrc, ReplyForeign, ReplyMisfit, IndexPastItems, ValueImpossible, JoinPastTop, RowShort}
 use Rattle.refusal.specs.declared.ErrorCode.{ErrorCode}
 use Rattle.refusal.specs.declared.ErrorCode.TheVariants.{Function, Address, Data}
+use Rattle.refusal.specs.declared.UnknownCode.{UnknownCode}
 
 -- the paper's number for each reason
 abbrev pub refusal_number : Refusal → ℕ
@@ -30,6 +31,14 @@ error_number Function = 1
 error_number Address = 2
 error_number Data = 3
 
+-- the code that a number names, or the number where it names none
+abbrev pub code_named : ℕ → Result ErrorCode UnknownCode
+code_named n =
+    cond (eqb n (error_number Function)) (Ok Function)
+    (cond (eqb n (error_number Address)) (Ok Address)
+    (cond (eqb n (error_number Data)) (Ok Data)
+    (Err (record { 0 = n }))))
+
 -- An answer in numbers begins with 0, 1 or 2. A refusal, whatever call gives it: 2 and its number
 abbrev pub refused_by : ℕ → List ℕ
 refused_by n = 2 ∷ n ∷ []
@@ -42,3 +51,5 @@ error_by code = 1 ∷ code ∷ []
 pub record OneReasonEach : Type 0 where
   pub refusals : (a b : Refusal) → refusal_number a ≡ refusal_number b → a ≡ b
   pub errors : (a b : ErrorCode) → error_number a ≡ error_number b → a ≡ b
+  -- a number is told as the code whose number it is, and as no other
+  pub codes : (n : ℕ) (code : ErrorCode) → (code_named n ≡ Ok code) ↔ (n ≡ error_number code)

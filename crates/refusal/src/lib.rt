@@ -3,10 +3,13 @@
 #![tactic(auto)]
 
 ghost use Rattle.std.specs.Prelude.{◌≡◌};
-ghost use Rattle.refusal.specs.Numbers.{refusal_number, error_number};
+ghost use Rattle.refusal.specs.Numbers.{refusal_number, error_number, code_named};
+
+use std::error::Error;
+use std::fmt;
 
 // The rows of the refusal table, in its order, then those of paper 02.
-#[derive(Clone, Copy)]
+#[derive(Clone, Copy, Debug, PartialEq, Eq)]
 pub enum Refusal {
     MeterOutOfLimits,
     BufferShort,
@@ -50,8 +53,33 @@ impl Refusal {
     }
 }
 
+impl fmt::Display for Refusal {
+    fn fmt<W: fmt::Write>(&self, f: &mut fmt::Formatter<W>) -> fmt::Result {
+        write!(f, "refused {}, ", self.number())?;
+        f.write_str(match self {
+            Refusal::MeterOutOfLimits => "meter record out of limits",
+            Refusal::BufferShort => "reply buffer under 256 bytes",
+            Refusal::RatioOutOfLimits => "KTA or KTV out of limits",
+            Refusal::OwnAddressZero => "own address 0",
+            Refusal::SampleOutOfLimits => "sample out of limits",
+            Refusal::EnergyPastTop => "energy past its top",
+            Refusal::NotARead => "not a read that is answered with data",
+            Refusal::ReplyLength => "reply under 5 or over 256 bytes",
+            Refusal::ReplyCrc => "reply CRC wrong",
+            Refusal::ReplyForeign => "reply of another address or function",
+            Refusal::ReplyMisfit => "reply does not fit the request",
+            Refusal::IndexPastItems => "index past the items",
+            Refusal::ValueImpossible => "value impossible",
+            Refusal::JoinPastTop => "count, Low or High over its top",
+            Refusal::RowShort => "row shorter than the items",
+        })
+    }
+}
+
+impl Error for Refusal {}
+
 // What a meter finds wrong with a request: its function, the address it starts at, or its data.
-#[derive(Clone, Copy)]
+#[derive(Clone, Copy, Debug, PartialEq, Eq)]
 pub enum ErrorCode {
     Function,
     Address,
@@ -70,3 +98,43 @@ impl ErrorCode {
         }
     }
 }
+
+// A number that no error code has.
+#[derive(Clone, Copy, Debug, PartialEq, Eq)]
+pub struct UnknownCode(pub u8);
+
+impl TryFrom<u8> for ErrorCode {
+    type Error = UnknownCode;
+
+    ghost try_from_gives = { λ number outcome. outcome ≡ code_named number };
+
+    fn try_from(number: u8) -> Result<ErrorCode, UnknownCode> {
+        match number {
+            1 => Ok(ErrorCode::Function),
+            2 => Ok(ErrorCode::Address),
+            3 => Ok(ErrorCode::Data),
+            _ => Err(UnknownCode(number)),
+        }
+    }
+}
+
+impl fmt::Display for ErrorCode {
+    fn fmt<W: fmt::Write>(&self, f: &mut fmt::Formatter<W>) -> fmt::Result {
+        write!(f, "error {:02}, ", self.number())?;
+        f.write_str(match self {
+            ErrorCode::Function => "incorrect function",
+            ErrorCode::Address => "wrong first address",
+            ErrorCode::Data => "incorrect data",
+        })
+    }
+}
+
+impl fmt::Display for UnknownCode {
+    fn fmt<W: fmt::Write>(&self, f: &mut fmt::Formatter<W>) -> fmt::Result {
+        write!(f, "no error has code {:02}", self.0)
+    }
+}
+
+impl Error for ErrorCode {}
+
+impl Error for UnknownCode {}

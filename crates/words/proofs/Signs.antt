@@ -1,7 +1,7 @@
 -- A magnitude below half of all values leaves the highest bit clear, and all values less such a magnitude have it set.
 use mathlib.Core.Path.{◌≡◌, refl}
 use mathlib.Core.Bool.{Bool, true, false, ◌&&◌}
-use Prim.Native.Nat.{ℕ, zero, suc, ◌-◌, ◌/◌, ◌^◌, ◌<◌}
+use Prim.Native.Nat.{ℕ, zero, suc, ◌-◌, ◌/◌, ◌%◌, ◌^◌, ◌<◌}
 use native.Mathlib.Nat.{sub-zero, mod-eq_of_lt, mod_self, mod-lt}
 use native.Mathlib.Omega.{arith}
 use lib.Dec.{ltb}
@@ -25,6 +25,17 @@ pub twos_fits : (n : ℕ) (negative : Bool) (m : ℕ) → m < 65536 ^ n → twos
 unfolding twos
 twos_fits n true m h = mod-lt (65536 ^ n - m) (omega (arith, h))
 twos_fits n false m h = h
+
+-- the lowest words of a number in four words are the number in these alone
+pub lowest_word : (negative : Bool) (m : ℕ) → m < 65536 → twos 4 negative m % 65536 ≡ twos 1 negative m
+unfolding twos
+lowest_word true m h = omega (arith, h)
+lowest_word false m h = omega (arith, h)
+
+pub lowest_long : (negative : Bool) (m : ℕ) → m < 4294967296 → twos 4 negative m % 4294967296 ≡ twos 2 negative m
+unfolding twos
+lowest_long true m h = omega (arith, h)
+lowest_long false m h = omega (arith, h)
 
 sign : (n : ℕ) (negative : Bool) (m : ℕ) → m < 65536 ^ n / 2 → negative_in n (twos n negative m) ≡ (negative && ltb 0 m)
 sign n false m h = rw twos_plain (lt-leb _ _ h)

@@ -2,13 +2,13 @@
 // The callers see to it that place and width fit the buffer, so nothing is tested again here.
 #![tactic(auto)]
 
-ghost use Rattle.std.specs.Prelude.{◌≡◌, ◌+◌, ◌-◌, ◌*◌, ◌%◌, ◌≤◌, ◌<◌, cond, length, ◌++◌};
+ghost use Rattle.std.specs.Prelude.{◌≡◌, ◌+◌, ◌*◌, ◌≤◌, length, ◌++◌};
 ghost use Rattle.std.proofs.lemmas.List.Edits.{sets};
 ghost use Rattle.words.specs.Words.{word, sent, word_at, value_at};
 ghost use Rattle.words.specs.Signed.{twos};
 
 // Which word of a long goes first.
-#[derive(Clone, Copy)]
+#[derive(Clone, Copy, Debug, PartialEq, Eq)]
 pub enum Order {
     UpperFirst,
     LowerFirst,
@@ -18,8 +18,7 @@ fn put_word(buffer: &mut [u8], at: usize, w: u16)
     requires { at + 2 ≤ length buffer.old }
     ensures { buffer.new ≡ sets buffer.old at (word w) }
 {
-    buffer[at] = (w / 256) as u8;
-    buffer[at + 1] = (w % 256) as u8;
+    buffer[at..at + 2].copy_from_slice(&w.to_be_bytes());
 }
 
 fn put_two(buffer: &mut [u8], at: usize, first: u16, second: u16)
@@ -47,18 +46,12 @@ pub fn put(buffer: &mut [u8], at: usize, words: usize, order: Order, v: u32)
     }
 }
 
-fn wide(b: u8) -> u16
-    ensures { (result ≡ b) × (result < 256) }
-{
-    b as u16
-}
-
 // The word at a place.
 pub fn word_at(bytes: &[u8], at: usize) -> u16
     requires { at + 2 ≤ length bytes.now }
     ensures { result ≡ word_at bytes.now at }
 {
-    wide(bytes[at]) * 256 + wide(bytes[at + 1])
+    u16::from_be_bytes([bytes[at], bytes[at + 1]])
 }
 
 // The value at a place: of one word, or of two in their order.
@@ -66,48 +59,38 @@ pub fn value_at(bytes: &[u8], at: usize, words: usize, order: Order) -> u32
     requires { (at + 2 * words ≤ length bytes.now) × ((1 ≤ words) × (words ≤ 2)) }
     ensures { result ≡ value_at order words bytes.now at }
 {
-    let first = word_at(bytes, at) as u32;
+    let first = u32::from(word_at(bytes, at));
     if words == 1 {
         return first;
     }
-    let second = word_at(bytes, at + 2) as u32;
+    let second = u32::from(word_at(bytes, at + 2));
     match order {
         Order::UpperFirst => first * 65536 + second,
         Order::LowerFirst => second * 65536 + first,
     }
 }
 
-// Two's complement, where `top` is the largest number that the words hold.
-fn complement(top: u64, negative: bool, magnitude: u64) -> u64
-    requires { magnitude ≤ top }
-    ensures { (result ≡ cond negative ((top + 1 - magnitude) % (top + 1)) magnitude) × (result ≤ top) }
-{
-    if !negative {
-        return magnitude;
-    }
-    if magnitude == 0 {
-        return 0;
-    }
-    top - (magnitude - 1)
-}
-
-// A signed number in one word, as two's complement.
+// A signed number in one word, as two's complement: the lowest word of it in four.
 pub fn twos_word(negative: bool, magnitude: u16) -> u16
     ensures { result ≡ twos 1 negative magnitude }
 {
-    complement(65_535, negative, magnitude as u64) as u16
+    (twos_quad(negative, u64::from(magnitude)) % 65_536) as u16
 }
 
-// A signed number in two words, as two's complement.
+// A signed number in two words, as two's complement: the two lowest words of it in four.
 pub fn twos_long(negative: bool, magnitude: u32) -> u32
     ensures { result ≡ twos 2 negative magnitude }
 {
-    complement(4_294_967_295, negative, magnitude as u64) as u32
+    (twos_quad(negative, u64::from(magnitude)) % 4_294_967_296) as u32
 }
 
 // A signed number in 64 bits, as many as four words have, as two's complement.
 pub fn twos_quad(negative: bool, magnitude: u64) -> u64
     ensures { result ≡ twos 4 negative magnitude }
 {
-    complement(18_446_744_073_709_551_615, negative, magnitude)
+    if negative {
+        magnitude.wrapping_neg()
+    } else {
+        magnitude
+    }
 }

@@ -1,54 +1,27 @@
 -- What is left passes the test of pairs where the line passes its own. In the end a pair is left, or fewer characters, which are none.
-use lib.ListN.{length, get_or, drop, length-drop, drop_of_length-le}
-use Rattle.std.proofs.Common.{◌≡◌, refl, sym, ◌∙◌, Bool, true, false, ◌&&◌, List, [], ◌∷◌, ℕ, suc, ◌+◌, ◌<◌, arith}
+use lib.ListN.{length, get_or, take, drop, length-drop}
+use Rattle.std.proofs.Common.{◌≡◌, sym, ◌∙◌, Bool, true, false, ◌&&◌, List, ℕ, ◌-◌, ◌≤◌, arith}
 use lib.Dec.{eqb}
-use lib.Seq.{drop-cons}
+use lib.Seq.{take_all}
 use Rattle.digits.specs.Hex.{pair_ok}
-use Rattle.lines.specs.Lines.{pairs_ok, line_ok}
-use Rattle.lines.proofs.Laws.{nothing, two}
+use Rattle.lines.specs.Lines.{pairs_ok}
+use Rattle.lines.proofs.Laws.{pairs_more, pairs_last, pairs_short}
 use Rattle.lines.proofs.line_ok.Goals as goal
 
-empty : (line : List ℕ) → length line ≡ 0 → true ≡ line_ok line
-empty line h =
-    let e : line ≡ [] = nothing line h in
-    rw e
+-- the first pair and its space are good or not, and what is behind them
+turn : (rest : List ℕ) (r t : Bool) → 3 ≤ length rest → r ≡ pair_ok (get_or rest 0 0) (get_or rest 1 0) → (r && eqb (get_or rest 2 0) 0x20) ≡ t → (t && pairs_ok (take (length rest - 3) (drop 3 rest))) ≡ pairs_ok rest
+turn rest r t h e q =
+    let all : take (length rest - 3) (drop 3 rest) ≡ drop 3 rest = take_all (length rest - 3) (drop 3 rest) (omega (arith, length-drop 3 rest)) in
+    rw (all, pairs_more rest h, ← e, q)
 
-some : (line : List ℕ) → (length line ≡ 0 → ⊥) → pairs_ok line ≡ line_ok line
-some [] h = absurd (h refl)
-some (c ∷ cs) h = refl
+pub loop-rest-preserved : goal.loop-rest-preserved
+loop-rest-preserved c = turn c.loop-rest.rest.now c.pair_ok.result true c.in-len3-up.len_at_least c.pair_ok.ensures c.if-pair_ok-space.true ∙ c.loop-rest.invariant
 
-turn : (line : List ℕ) (i : ℕ) → i + 2 < length line → (r t : Bool) → r ≡ pair_ok (get_or line i 0) (get_or line (i + 1) 0) → (r && eqb (get_or line (i + 2) 0) 0x20) ≡ t → pairs_ok (drop i line) ≡ (t && pairs_ok (drop (i + 3) line))
-unfolding pairs_ok
-turn line i h r t e q =
-    let next : suc (i + 2) ≡ i + 3 = omega arith in
-    rw (two line i (omega arith), drop-cons line (i + 2) 0 h, next, ← e, q)
+pub returns-else-pair_ok-space : goal.returns-else-pair_ok-space
+returns-else-pair_ok-space c = turn c.loop-rest.rest.now c.pair_ok.result false c.in-len3-up.len_at_least c.pair_ok.ensures c.if-pair_ok-space.false ∙ c.loop-rest.invariant
 
-last : (line : List ℕ) (i : ℕ) → i + 2 ≡ length line → pairs_ok (drop i line) ≡ pair_ok (get_or line i 0) (get_or line (i + 1) 0)
-unfolding pairs_ok
-last line i h = rw (two line i (omega arith), drop_of_length-le line {i = i + 2} (omega arith))
+pub returns-in-len2 : goal.returns-in-len2
+returns-in-len2 c = c.pair_ok-in-len2.ensures ∙ sym (pairs_last c.loop-rest.rest.now (omega arith)) ∙ c.loop-rest.invariant
 
-short : (l : List ℕ) → length l < 2 → pairs_ok l ≡ false
-unfolding pairs_ok
-short [] h = refl
-short (c ∷ []) h = refl
-short (c ∷ d ∷ l) h = absurd (omega arith)
-
-pub returns-then-n-eq0 : goal.returns-then-n-eq0
-returns-then-n-eq0 c = empty c.args.line.now c.if-n-eq0.true
-
-pub loop-i-init : goal.loop-i-init
-loop-i-init c = (omega arith, some c.args.line.now c.if-n-eq0.false)
-
-pub loop-i-preserved : goal.loop-i-preserved
-loop-i-preserved c =
-    (omega arith, sym (turn c.args.line.now c.loop-i.i (omega arith) c.pair_ok.result true c.pair_ok.ensures c.if-pair_ok-line.true) ∙ c.loop-i.invariant.1)
-
-pub returns-else-pair_ok-line : goal.returns-else-pair_ok-line
-returns-else-pair_ok-line c =
-    sym (turn c.args.line.now c.loop-i.i (omega arith) c.pair_ok.result false c.pair_ok.ensures c.if-pair_ok-line.false) ∙ c.loop-i.invariant.1
-
-pub returns-then-n-i-ne2 : goal.returns-then-n-i-ne2
-returns-then-n-i-ne2 c = sym (short (drop c.loop-i.i c.args.line.now) (simp length-drop (omega arith))) ∙ c.loop-i.invariant.1
-
-pub returns : goal.returns
-returns c = c.pair_ok-2.ensures ∙ sym (last c.args.line.now c.loop-i.i (omega arith)) ∙ c.loop-i.invariant.1
+pub returns-in_default-rest : goal.returns-in_default-rest
+returns-in_default-rest c = sym (pairs_short c.loop-rest.rest.now (omega arith)) ∙ c.loop-rest.invariant

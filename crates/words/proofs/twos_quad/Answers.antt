@@ -1,11 +1,12 @@
--- The definition at its width.
-use Rattle.std.proofs.Common.{arith}
+-- The definition at its width: what makes a sum of 0 with the magnitude is all values less it, or 0.
+use Rattle.std.proofs.Common.{refl, arith}
 use Rattle.words.specs.Signed.{twos}
 use Rattle.words.proofs.twos_quad.Goals as goal
 
-pub complement-requires : goal.complement-requires
-complement-requires c = omega (arith, c.ranges.magnitude)
-
-pub returns : goal.returns
+pub returns-then-negative : goal.returns-then-negative
 unfolding twos
-returns c = c.complement.ensures.0
+returns-then-negative c = rw c.if-negative.true (omega (arith, c.wrapping_neg.ensures))
+
+pub returns-else-negative : goal.returns-else-negative
+unfolding twos
+returns-else-negative c = rw c.if-negative.false refl

@@ -42,4 +42,4 @@ pub returns : goal.returns
 returns c =
     let g = c.struct_told-2-1.given in
     let read = read_three c.args.self c.requires g.0.1 g.1.0.1 g.1.1.0.1 in
-    c.of.ensures ∙ ap signed_of (ap (λ (z : ℤ). to_z w64 (of_z w64 z)) read ∙ to_z-of_z (three_fit c.args.self c.requires))
+    c.from.ensures ∙ ap signed_of (ap (λ (z : ℤ). to_z w64 (of_z w64 z)) read ∙ to_z-of_z (three_fit c.args.self c.requires))
