@@ -8,10 +8,12 @@ use native.Mathlib.Nat.{min-le_left}
 use native.Mathlib.Omega.{arith}
 use lib.Dec.{T, leb, ltb, eqb}
 use lib.ListN.{length, take, length-take}
+use Rattle.std.proofs.Common.{Option, Some, None, Result, Ok, Err}
 use lib.Seq.{take_all, length-take-le}
 use borrow.Author.Tests.{not-true, ltb-true, lt-ltb, le-ltb, leb-true, leb-false}
 use Rattle.refusal.specs.declared.Refusal.{Refusal}
 use Rattle.refusal.specs.declared.Refusal.TheVariants.{MeterOutOfLimits, BufferShort}
+use Rattle.refusal.specs.declared.ErrorCode.{ErrorCode}
 use Rattle.refusal.specs.declared.ErrorCode.TheVariants.{Function}
 use Rattle.crc.proofs.Laws.{length_sealed}
 use Rattle.directory.specs.declared.Span.{Span}
@@ -30,11 +32,8 @@ use Rattle.modbus.proofs.Judged.{legal_read}
 use Rattle.meter.specs.declared.Meter.{Meter}
 use Rattle.meter.specs.Meters.{meter_ok}
 use Rattle.registers.specs.Shown.{shown_of}
-use Rattle.store.specs.declared.Verdict.{Verdict}
-use Rattle.store.specs.declared.Verdict.TheVariants.{Good, Wrong}
-use Rattle.store.specs.Writes.{written_of}
+use Rattle.store.specs.Writes.{fault_of, left_by, written_of}
 use Rattle.store.proofs.Verdicts.{write_within}
-use Rattle.board.specs.declared.Reply.TheVariants.{Silent, Sent, Refused}
 use Rattle.board.specs.Reads.{items_sent, read_bytes, read_reply}
 use Rattle.board.specs.Board.{Outcome, refused_of, silent_of, sent_of, sent_or_silent, write_reply, heard_as, to_second, view_for, board_in, board_of}
 use Rattle.board.proofs.Sent.{length_items}
@@ -49,10 +48,10 @@ module _ (P : Outcome → Type 0) (m : Meter) (frame b : List ℕ) where
     out : meter_ok m ≡ false → P (refused_of MeterOutOfLimits m b)
     short : length b < 256 → P (refused_of BufferShort m b)
     quiet : P (silent_of m b)
-    stored : P (silent_of (written_of m frame).meter b)
+    stored : P (silent_of (left_by m (written_of m frame)) b)
     other : 4 ≤ length frame → P (sent_of (error_reply frame Function) m b)
     read : (tenant : Bool) → 4 ≤ length frame → P (sent_of (read_reply (view_for own tenant) m.given.order (shown_of m) frame) m b)
-    written : 4 ≤ length frame → P (sent_of (write_reply frame (written_of m frame).verdict) (written_of m frame).meter b)
+    written : 4 ≤ length frame → P (sent_of (write_reply frame (fault_of (written_of m frame))) (left_by m (written_of m frame)) b)
 
   -- address 0 has silence
   replied : (bytes : List ℕ) (n : Meter) → P (silent_of n b) → P (sent_of bytes n b) → P (sent_or_silent frame bytes n b)
@@ -65,7 +64,7 @@ module _ (P : Outcome → Type 0) (m : Meter) (frame b : List ℕ) where
       let four = (heeded address frame s).least in
       either P (not (is_read frame) && not (writes && is_write frame)) _ _ (λ _. replied (error_reply frame Function) m o.quiet (o.other four)) (λ _.
       either P (is_read frame) _ _ (λ _. replied (read_reply (view_for own tenant) m.given.order (shown_of m) frame) m o.quiet (o.read tenant four)) (λ _.
-      replied (write_reply frame (written_of m frame).verdict) (written_of m frame).meter o.stored (o.written four))))
+      replied (write_reply frame (fault_of (written_of m frame))) (left_by m (written_of m frame)) o.stored (o.written four))))
 
   each : Each → P (board_of m frame b)
   unfolding board_in
@@ -83,9 +82,9 @@ module _ (m : Meter) (frame b : List ℕ) (good : meter_ok m ≡ true) where
       each (λ o. meter_ok o.handled.meter ≡ true) m frame b
       (record { out = λ _. good; short = λ _. good; quiet = good; stored = next; other = λ _. good; read = λ _ _. good; written = λ _. next })
 
-  pub never_refuses : 256 ≤ length b → (reason : Refusal) → (board_of m frame b).handled.reply ≡ Refused reason → ⊥
+  pub never_refuses : 256 ≤ length b → (reason : Refusal) → (board_of m frame b).handled.reply ≡ Err reason → ⊥
   never_refuses room reason =
-      each (λ o. o.handled.reply ≡ Refused reason → ⊥) m frame b
+      each (λ o. o.handled.reply ≡ Err reason → ⊥) m frame b
       (record {
         out = λ e. absurd (false≢true (sym e ∙ good));
         short = λ h. absurd (omega arith);
@@ -96,10 +95,10 @@ module _ (m : Meter) (frame b : List ℕ) (good : meter_ok m ≡ true) where
         written = λ _. sent_not _;
       })
     where
-      silent_not : Silent ≡ Refused reason → ⊥
+      silent_not : ◌≡◌ {A = Result (Option ℕ) Refusal} (Ok None) (Err reason) → ⊥
       silent_not e = let z : ◌≡◌ {A = ℕ} 0 1 = cc in omega arith
 
-      sent_not : (n : ℕ) → Sent n ≡ Refused reason → ⊥
+      sent_not : (n : ℕ) → ◌≡◌ {A = Result (Option ℕ) Refusal} (Ok (Some n)) (Err reason) → ⊥
       sent_not n e = let z : ◌≡◌ {A = ℕ} 0 1 = cc in omega arith
 
 -- ---- a frame that is cut
@@ -132,7 +131,7 @@ cut m frame b = by (leb (length frame) 257) refl
 
 -- three characters a byte sent, 32 for each of the line's
 abbrev Brief : List ℕ → Outcome → Type 0
-Brief frame o = (n : ℕ) → o.handled.reply ≡ Sent n → 3 * n ≤ 32 * (3 * length frame - 1)
+Brief frame o = (n : ℕ) → o.handled.reply ≡ Ok (Some n) → 3 * n ≤ 32 * (3 * length frame - 1)
 
 module _ (m : Meter) (frame b : List ℕ) where
   silent_brief : (n : Meter) → Brief frame (silent_of n b)
@@ -145,9 +144,9 @@ module _ (m : Meter) (frame b : List ℕ) where
   sent_brief bytes n h k e = let same : length bytes ≡ k = cc in omega (arith, h, same)
 
   -- an error is five bytes, and an echo eight
-  write_brief : 4 ≤ length frame → (verdict : Verdict) → 3 * length (write_reply frame verdict) ≤ 32 * (3 * length frame - 1)
-  write_brief h (Wrong code) = omega arith
-  write_brief h Good =
+  write_brief : 4 ≤ length frame → (fault : Option ErrorCode) → 3 * length (write_reply frame fault) ≤ 32 * (3 * length frame - 1)
+  write_brief h (Some code) = omega arith
+  write_brief h None =
       let six : length (take 6 frame) ≤ 6 = rw (length-take 6 frame) (min-le_left 6 (length frame)) in
       omega (arith, length_sealed (take 6 frame), six)
 
@@ -169,7 +168,7 @@ module _ (m : Meter) (frame b : List ℕ) where
 
   pub brief : Brief frame (board_of m frame b)
   brief =
-      let next = (written_of m frame).meter in
+      let next = (left_by m (written_of m frame)) in
       each (Brief frame) m frame b
       (record {
         out = λ _. refused_brief MeterOutOfLimits;
@@ -178,5 +177,5 @@ module _ (m : Meter) (frame b : List ℕ) where
         stored = silent_brief next;
         other = λ h. sent_brief (error_reply frame Function) m (omega arith);
         read = λ tenant h. sent_brief (read_reply (view_for own tenant) m.given.order (shown_of m) frame) m (part_brief tenant h);
-        written = λ h. sent_brief (write_reply frame (written_of m frame).verdict) next (write_brief h (written_of m frame).verdict);
+        written = λ h. sent_brief (write_reply frame (fault_of (written_of m frame))) next (write_brief h (fault_of (written_of m frame)));
       })

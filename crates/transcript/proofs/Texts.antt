@@ -6,14 +6,14 @@ use mathlib.Core.List.{List, [], ◌∷◌, ◌++◌}
 use Prim.Native.Nat.{ℕ, suc, ◌+◌, ◌-◌, ◌*◌, ◌≤◌, ◌<◌, max}
 use native.Mathlib.Omega.{arith}
 use lib.Dec.{eqb}
+use Rattle.std.proofs.Common.{Option, Some, None, Result, Ok, Err}
+use Rattle.refusal.specs.declared.Refusal.{Refusal}
 use lib.ListN.{length, get_or, take, drop, replicate, length-append, length-take, length-drop}
 use lib.Seq.{drop-cons, drop-drop}
 use Rattle.lines.specs.Lines.{line_length, line_ok, bytes_of}
 use Rattle.lines.proofs.Laws.{bytes_length}
 use Rattle.lines.proofs.Texts.{text_length_lem}
 use Rattle.meter.specs.declared.Meter.{Meter}
-use Rattle.board.specs.declared.Reply.{Reply}
-use Rattle.board.specs.declared.Reply.TheVariants.{Silent, Sent, Refused}
 use Rattle.transcript.specs.Transcript.{begun_by, lines_of, bad_text, reply_text, outcome_of, line_text, meter_after, transcript_of}
 use Rattle.transcript.proofs.Outcomes.{brief}
 
@@ -88,10 +88,10 @@ input_shares (c ∷ cs) = by (eqb c 0x0A) (input_shares cs)
     by false h = omega (arith, begun_shares c (lines_of cs))
 
 -- a reply is brief, and so are `silent` and `bad line`
-reply_most : (r : Reply) (buffer : List ℕ) (n : ℕ) → 1 ≤ n → ((k : ℕ) → r ≡ Sent k → 3 * k ≤ 32 * n) → length (reply_text r buffer) + 1 ≤ 32 * n
-reply_most Silent buffer n h k = omega arith
-reply_most (Sent s) buffer n h k = omega (arith, k s refl, text_length_lem (take s buffer), length-take s buffer)
-reply_most (Refused reason) buffer n h k = omega arith
+reply_most : (r : Result (Option ℕ) Refusal) (buffer : List ℕ) (n : ℕ) → 1 ≤ n → ((k : ℕ) → r ≡ Ok (Some k) → 3 * k ≤ 32 * n) → length (reply_text r buffer) + 1 ≤ 32 * n
+reply_most (Ok None) buffer n h k = omega arith
+reply_most (Ok (Some s)) buffer n h k = omega (arith, k s refl, text_length_lem (take s buffer), length-take s buffer)
+reply_most (Err reason) buffer n h k = omega arith
 
 answer_most : (m : Meter) (line : List ℕ) → length (line_text m line) + 1 ≤ 32 * share line
 unfolding line_text outcome_of

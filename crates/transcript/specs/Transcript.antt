@@ -1,5 +1,5 @@
 -- Paper 01, the program `bench`: the text that it writes, of the whole of its input.
-use Rattle.std.specs.Prelude.{◌≡◌, ℕ, ◌*◌, ◌≤◌, Bool, true, cond, List, [], ◌∷◌, ◌++◌, leb, eqb, length, take, replicate}
+use Rattle.std.specs.Prelude.{◌≡◌, ℕ, ◌*◌, ◌≤◌, Bool, true, cond, List, [], ◌∷◌, ◌++◌, leb, eqb, length, take, replicate, Option, Some, None, Result, Ok, Err}
 use Rattle.std.proofs.lemmas.List.Edits.{sets}
 use Rattle.refusal.specs.declared.Refusal.{Refusal}
 use Rattle.words.specs.declared.Order.TheVariants.{UpperFirst}
@@ -7,8 +7,6 @@ use Rattle.lines.specs.Lines.{line_ok, bytes_of, text_of}
 use Rattle.meter.specs.declared.given.Given.{Given}
 use Rattle.meter.specs.declared.Meter.{Meter}
 use Rattle.meter.specs.Meters.{meter_ok, new_of}
-use Rattle.board.specs.declared.Reply.{Reply}
-use Rattle.board.specs.declared.Reply.TheVariants.{Silent, Sent, Refused}
 use Rattle.board.specs.Board.{Outcome, board_of}
 
 -- a line with a byte more in front, and the lines behind it
@@ -30,10 +28,10 @@ abbrev pub bad_text : List ℕ
 bad_text = 0x62 ∷ 0x61 ∷ 0x64 ∷ 0x20 ∷ 0x6C ∷ 0x69 ∷ 0x6E ∷ 0x65 ∷ []
 
 -- writes the reply so in capitals, or `silent`: a meter that refuses sends nothing, and this one never does
-abbrev pub reply_text : Reply → List ℕ → List ℕ
-reply_text Silent buffer = silent_text
-reply_text (Sent n) buffer = text_of (take n buffer)
-reply_text (Refused reason) buffer = silent_text
+abbrev pub reply_text : Result (Option ℕ) Refusal → List ℕ → List ℕ
+reply_text (Ok None) buffer = silent_text
+reply_text (Ok (Some n)) buffer = text_of (take n buffer)
+reply_text (Err reason) buffer = silent_text
 
 -- what the meter does with the frame of a line, the whole of it however long; its reply has a buffer of 256 bytes
 unfoldable pub outcome_of : Meter → List ℕ → Outcome
@@ -69,8 +67,8 @@ abbrev pub room_for : List ℕ → ℕ → Bool
 room_for input room = leb (32 * length input) room
 
 -- all that the contract of `of` allows: its answer, and every byte of the text
-pub record Transcribed (input before : List ℕ) (answer : ℕ) (after : List ℕ) : Type 0 where
-  pub told : answer ≡ cond (room_for input (length before)) (length (bench_text input)) 0
+pub record Transcribed (input before : List ℕ) (answer : Option ℕ) (after : List ℕ) : Type 0 where
+  pub told : answer ≡ cond (room_for input (length before)) (Some (length (bench_text input))) None
   pub bytes : after ≡ cond (room_for input (length before)) (sets before 0 (bench_text input)) before
 
 -- STATEMENT: the text fits its room, and stands there whole; a meter within limits refuses nothing and stays so, as bench's is, which has
@@ -79,9 +77,10 @@ pub record TextWritten : Type 0 where
   pub fits : (input : List ℕ) → length (bench_text input) ≤ 32 * length input
   pub whole :
       (input before : List ℕ) (answer : ℕ) (after : List ℕ) → 32 * length input ≤ length before →
-      Transcribed input before answer after → take answer after ≡ bench_text input
+      Transcribed input before (Some answer) after → take answer after ≡ bench_text input
+  pub answers : (input before after : List ℕ) → 32 * length input ≤ length before → Transcribed input before None after → ⊥
   pub answered :
-      (m : Meter) (line : List ℕ) (reason : Refusal) → meter_ok m ≡ true → (outcome_of m line).handled.reply ≡ Refused reason → ⊥
+      (m : Meter) (line : List ℕ) (reason : Refusal) → meter_ok m ≡ true → (outcome_of m line).handled.reply ≡ Err reason → ⊥
   pub within : (m : Meter) (line : List ℕ) → meter_ok m ≡ true → meter_ok (meter_after m line) ≡ true
   pub new : meter_ok bench_meter ≡ true
   pub alone : bench_meter.given.second ≡ 0

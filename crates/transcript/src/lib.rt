@@ -1,13 +1,11 @@
 // What the program `bench` writes, of the whole of its input (paper 01, the program `bench`).
 #![tactic(auto)]
 
-ghost use Rattle.std.specs.Prelude.{◌≡◌, ℕ, ◌+◌, ◌*◌, ◌≤◌, ◌<◌, length};
+ghost use Rattle.std.specs.Prelude.{◌≡◌, ℕ, ◌*◌, ◌≤◌, ◌<◌, length};
 ghost use Rattle.std.proofs.lemmas.List.Edits.{sets};
-ghost use Rattle.board.specs.declared.Reply.TheVariants.{Sent};
 ghost use Rattle.transcript.specs.Transcript.{reply_text, line_text, meter_after, bench_text, Transcribed};
 
-use board::Reply;
-use lines::Line;
+use board::Refusal;
 use meter::Meter;
 use meter::given::Given;
 use ratio::Ratios;
@@ -22,22 +20,15 @@ const REPLY_ROOM: usize = 256;
 // line feed, to a request of 23.
 const ROOM_A_BYTE: usize = 32;
 
-// The meter after a line, and where the answer to the line ends in the text.
-#[derive(Clone, Copy)]
-struct Told {
-    meter: Meter,
-    end: usize,
-}
-
 // Puts the text of the whole input at the start of `text`, and answers its length. Without room for 32 characters a byte of
-// the input it changes nothing and answers 0.
-pub fn of(input: &[u8], text: &mut [u8]) -> usize
+// the input it changes nothing.
+pub fn of(input: &[u8], text: &mut [u8]) -> Option<usize>
     ensures { Transcribed input.now text.old result text.new }
 {
     if text.len() / ROOM_A_BYTE < input.len() {
-        return 0;
+        return None;
     }
-    run(input, text)
+    Some(run(input, text))
 }
 
 // One meter answers all lines, so that a write lasts. The bytes behind the last line feed, if there are any, are a line too.
@@ -57,9 +48,7 @@ fn run(input: &[u8], text: &mut [u8]) -> usize
     let mut end = 0;
     while at < input.len() {
         let stop = lines::line_end(input, at);
-        let told = answer(meter, &input[at..stop], text, end);
-        meter = told.meter;
-        end = told.end;
+        end += answer(&mut meter, &input[at..stop], &mut text[end..]);
         text[end] = lines::LINE_FEED;
         end += 1;
         at = stop + 1;
@@ -67,48 +56,43 @@ fn run(input: &[u8], text: &mut [u8]) -> usize
     end
 }
 
-// Puts the answer to a line at a place of the text.
-fn answer(meter: Meter, line: &[u8], text: &mut [u8], at: usize) -> Told
-    requires { at + length (line_text meter line.now) < length text.old }
-    ensures meter_and_end { (result.meter ≡ meter_after meter line.now) × (result.end ≡ at + length (line_text meter line.now)) }
-    ensures text_after { text.new ≡ sets text.old at (line_text meter line.now) }
+// Puts the answer to a line at the start of the text, and answers its length.
+fn answer(meter: &mut Meter, line: &[u8], text: &mut [u8]) -> usize
+    requires { length (line_text meter.old line.now) < length text.old }
+    ensures meter_after { meter.new ≡ meter_after meter.old line.now }
+    ensures value { result ≡ length (line_text meter.old line.now) }
+    ensures text_after { text.new ≡ sets text.old 0 (line_text meter.old line.now) }
 {
     let mut frame = [0u8; FRAME_ROOM];
-    let Line::Frame(n) = lines::frame(line, &mut frame) else {
-        let end = put(text, at, b"bad line");
-        return Told { meter, end };
+    let Some(n) = lines::frame(line, &mut frame) else {
+        return put(b"bad line", text);
     };
-    let mut reply = [0u8; REPLY_ROOM];
-    let handled = board::handle(meter, &frame[..n], &mut reply);
-    let did = handled.reply;
-    let next = handled.meter;
-    let end = tell(did, &reply, text, at);
-    Told { meter: next, end }
+    let mut bytes = [0u8; REPLY_ROOM];
+    let handled = board::handle(*meter, &frame[..n], &mut bytes);
+    *meter = handled.meter;
+    tell(handled.reply, &bytes, text)
 }
 
 // Puts the reply, or that there is none. The meter refuses nothing here: its record is within limits and the buffer has room.
-fn tell(did: Reply, reply: &[u8], text: &mut [u8], at: usize) -> usize
-    requires reply_within { (n : ℕ) → did ≡ Sent n → n ≤ length reply.now }
-    requires room { at + length (reply_text did reply.now) < length text.old }
-    ensures value { result ≡ at + length (reply_text did reply.now) }
-    ensures text_after { text.new ≡ sets text.old at (reply_text did reply.now) }
+fn tell(reply: Result<Option<usize>, Refusal>, bytes: &[u8], text: &mut [u8]) -> usize
+    requires reply_within { (n : ℕ) → reply ≡ Ok (Some n) → n ≤ length bytes.now }
+    requires room { length (reply_text reply bytes.now) < length text.old }
+    ensures value { result ≡ length (reply_text reply bytes.now) }
+    ensures text_after { text.new ≡ sets text.old 0 (reply_text reply bytes.now) }
 {
-    let Reply::Sent(n) = did else {
-        return put(text, at, b"silent");
+    let Ok(Some(n)) = reply else {
+        return put(b"silent", text);
     };
-    at + lines::text(&reply[..n], &mut text[at..])
+    lines::text(&bytes[..n], text).unwrap()
 }
 
-// Puts characters at a place, and answers where they end.
-fn put(text: &mut [u8], at: usize, characters: &[u8]) -> usize
-    requires { at + length characters.now ≤ length text.old }
-    ensures value { result ≡ at + length characters.now }
-    ensures text_after { text.new ≡ sets text.old at characters.now }
+// Puts characters at the start of the text, and answers how many.
+fn put(characters: &[u8], text: &mut [u8]) -> usize
+    requires { length characters.now ≤ length text.old }
+    ensures value { result ≡ length characters.now }
+    ensures text_after { text.new ≡ sets text.old 0 characters.now }
 {
-    let mut i = 0;
-    while i < characters.len() {
-        text[at + i] = characters[i];
-        i += 1;
-    }
-    at + i
+    let n = characters.len();
+    text[..n].copy_from_slice(characters);
+    n
 }

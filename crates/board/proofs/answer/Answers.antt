@@ -11,13 +11,13 @@ use Rattle.own.proofs.Rules.{own_passes}
 use Rattle.refusal.specs.declared.ErrorCode.TheVariants.{Function}
 use Rattle.modbus.specs.Replies.{error_reply}
 use Rattle.modbus.specs.Frame.{address_of, silence, is_write}
-use Rattle.modbus.proofs.Frames.{Heeded, heeded}
+use Rattle.modbus.proofs.Frames.{heeded}
 use Rattle.meter.specs.declared.Meter.{Meter}
 use Rattle.meter.specs.Meters.{meter_ok}
 use Rattle.registers.specs.Shown.{shown_of}
 use Rattle.store.specs.Writes.{fault_of, left_by, written_of}
 use Rattle.board.specs.Askers.{is_tenant}
-use Rattle.board.specs.Board.{Outcome, silent_of, sent_or_silent, write_reply, obeyed_in, to_second, address_for, view_for, board_of}
+use Rattle.board.specs.Board.{silent_of, write_reply, obeyed_in, to_second, address_for, view_for, board_of}
 use Rattle.board.proofs.Cases.{allowed, board_1, board_2, board_silent, board_obeys, unwritten, read_sent, other_sent, obeys_write}
 use Rattle.board.proofs.Lengths.{write_long, read_long}
 use Rattle.board.proofs.Rooms.{along, kept, put, over}
@@ -117,7 +117,7 @@ returns-in_default-frame c =
     ap (λ (a : ℕ). silence a frame) (sym c.address.ensures) ∙ sym c.silence.ensures ∙ c.if-silence.false in
     let may_not : (not tenant && is_write frame) ≡ false =
     elim c.in_default-frame.branch [
-      in_default-frame-via-in-16+else-may_write w ↦ ap (λ (b : Bool). b && is_write frame) (sym w.may_write.ensures ∙ w.if-may_write.false)
+      | in_default-frame-via-in-16+else-may_write w ↦ ap (λ (b : Bool). b && is_write frame) (sym w.may_write.ensures ∙ w.if-may_write.false)
       | in_default-frame-via-in_default w ↦ no_write (not tenant) (is_write frame) (ne_eqb _ _ (λ z. omega (arith, z)))
     ] in
     let to_all : address_of frame ≡ 0 = omega arith in
@@ -151,7 +151,7 @@ returns-in_default-2 c =
     ap (λ (a : ℕ). silence a frame) (sym c.address.ensures) ∙ sym c.silence.ensures ∙ c.if-silence.false in
     let may_not : (not tenant && is_write frame) ≡ false =
     elim c.in_default-frame.branch [
-      in_default-frame-via-in-16+else-may_write w ↦ ap (λ (b : Bool). b && is_write frame) (sym w.may_write.ensures ∙ w.if-may_write.false)
+      | in_default-frame-via-in-16+else-may_write w ↦ ap (λ (b : Bool). b && is_write frame) (sym w.may_write.ensures ∙ w.if-may_write.false)
       | in_default-frame-via-in_default w ↦ no_write (not tenant) (is_write frame) (ne_eqb _ _ (λ z. omega (arith, z)))
     ] in
     let e = c.put_error.ensures in

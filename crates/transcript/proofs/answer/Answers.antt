@@ -1,9 +1,8 @@
 -- A bad line is answered so, and leaves the meter as it was. The frame of a good one is cut at 257 bytes, where it was too long already, and so the
 -- meter does with it what it does with the whole frame.
 use lib.ListN.{length, take, replicate, length-take}
-use Rattle.std.proofs.Common.{◌≡◌, refl, sym, ap, ◌∙◌, Bool, true, false, cond, List, ℕ, ◌≤◌, min, arith}
-use lib.Seq.{sets, length-take-le}
-use Rattle.lines.specs.declared.Line.TheVariants.{Frame, Bad}
+use Rattle.std.proofs.Common.{◌≡◌, refl, sym, ap, ◌∙◌, Bool, true, false, cond, List, ℕ, min, Some, None, arith}
+use lib.Seq.{sets}
 use Rattle.lines.specs.Lines.{bytes_of, line_ok, line_of, frame_over}
 use Rattle.modbus.proofs.Stores.{sets_taken}
 use Rattle.meter.specs.declared.Meter.{Meter}
@@ -15,11 +14,11 @@ use Rattle.transcript.proofs.Outcomes.{cut}
 use Rattle.transcript.proofs.answer.Goals as goal
 
 -- ---- a bad line
-module _ (m : Meter) (line : List ℕ) (is : line_of line 257 ≡ Bad) where
+module _ (m : Meter) (line : List ℕ) (is : line_of line 257 ≡ None) where
   not_ok : line_ok line ≡ false
   not_ok = by (line_ok line) is
     where
-      by : (b : Bool) → cond b (Frame (min (length (bytes_of line)) 257)) Bad ≡ Bad → b ≡ false
+      by : (b : Bool) → cond b (Some (min (length (bytes_of line)) 257)) None ≡ None → b ≡ false
       by true e = let z : ◌≡◌ {A = ℕ} 0 1 = cc in absurd (omega (arith, z))
       by false e = refl
 
@@ -32,11 +31,11 @@ module _ (m : Meter) (line : List ℕ) (is : line_of line 257 ≡ Bad) where
   bad_meter = rw not_ok refl
 
 -- ---- a good one
-module _ (m : Meter) (line frame : List ℕ) (n : ℕ) (is : line_of line 257 ≡ Frame n) (holds : frame ≡ frame_over line (replicate 257 0)) where
+module _ (m : Meter) (line frame : List ℕ) (n : ℕ) (is : line_of line 257 ≡ Some n) (holds : frame ≡ frame_over line (replicate 257 0)) where
   ok : (line_ok line ≡ true) × (n ≡ min (length (bytes_of line)) 257)
   ok = by (line_ok line) is
     where
-      by : (b : Bool) → cond b (Frame (min (length (bytes_of line)) 257)) Bad ≡ Frame n → (b ≡ true) × (n ≡ min (length (bytes_of line)) 257)
+      by : (b : Bool) → cond b (Some (min (length (bytes_of line)) 257)) None ≡ Some n → (b ≡ true) × (n ≡ min (length (bytes_of line)) 257)
       by true e = (refl, cc)
       by false e = let z : ◌≡◌ {A = ℕ} 0 1 = cc in absurd (omega (arith, z))
 
@@ -62,33 +61,21 @@ module _ (m : Meter) (line frame : List ℕ) (n : ℕ) (is : line_of line 257 �
     unfolding meter_after
     good_meter = rw ok.0 (ap (λ (h : Handled). h.meter) (a.handled ∙ ap (λ (o : Outcome). o.handled) outcome))
 
-pub put-end-requires : goal.put-end-requires
-put-end-requires c =
-    let unread : line_of c.args.line.now 257 ≡ Bad = sym c.frame.ensures.told ∙ c.in_default.is in
-    omega (arith, c.requires, ap length (bad_text_lem c.args.meter c.args.line.now unread))
+pub put-requires : goal.put-requires
+put-requires c =
+    let unread : line_of c.args.line.now 257 ≡ None = sym c.frame.ensures.told ∙ c.in_default.is in
+    omega (arith, c.requires, ap length (bad_text_lem c.args.meter.now c.args.line.now unread))
 
 pub returns-in_default : goal.returns-in_default
 returns-in_default c =
-    let unread : line_of c.args.line.now 257 ≡ Bad = sym c.frame.ensures.told ∙ c.in_default.is in
-    let text = bad_text_lem c.args.meter c.args.line.now unread in
-    record { meter_and_end = (sym (bad_meter c.args.meter c.args.line.now unread), rw text c.put-end.ensures.value); text_after = rw text c.put-end.ensures.text_after }
+    let unread : line_of c.args.line.now 257 ≡ None = sym c.frame.ensures.told ∙ c.in_default.is in
+    let text = bad_text_lem c.args.meter.now c.args.line.now unread in
+    record { meter_after = sym (bad_meter c.args.meter.now c.args.line.now unread); value = rw text c.put.ensures.value; text_after = rw text c.put.ensures.text_after }
 
-pub slice_bounds-frame-end-2 : goal.slice_bounds-frame-end-2
-slice_bounds-frame-end-2 c =
-    let held : line_of c.args.line.now 257 ≡ Frame c.in-Frame.n = sym c.frame.ensures.told ∙ c.in-Frame.is in
-    let within : c.in-Frame.n ≤ 257 = omega (arith, (ok c.args.meter c.args.line.now c.frame.new.buffer c.in-Frame.n held c.frame.ensures.bytes).1) in
-    omega (arith, within)
-
-pub slice_bounds-handle-end : goal.slice_bounds-handle-end
-slice_bounds-handle-end c =
-    let held : line_of c.args.line.now 257 ≡ Frame c.in-Frame.n = sym c.frame.ensures.told ∙ c.in-Frame.is in
-    let within : c.in-Frame.n ≤ 257 = omega (arith, (ok c.args.meter c.args.line.now c.frame.new.buffer c.in-Frame.n held c.frame.ensures.bytes).1) in
-    sym (length-take-le _ _ (omega (arith, within)))
-
-pub tell-end-requires : goal.tell-end-requires
-tell-end-requires c =
-    let held : line_of c.args.line.now 257 ≡ Frame c.in-Frame.n = sym c.frame.ensures.told ∙ c.in-Frame.is in
-    let told_text = good_text c.args.meter c.args.line.now c.frame.new.buffer c.in-Frame.n held c.frame.ensures.bytes c.handle-handled.result c.handle-handled.new.buffer c.handle-handled.ensures in
+pub tell-requires : goal.tell-requires
+tell-requires c =
+    let held : line_of c.args.line.now 257 ≡ Some c.in-Some.n = sym c.frame.ensures.told ∙ c.in-Some.is in
+    let told_text = good_text c.args.meter.now c.args.line.now c.frame.new.buffer c.in-Some.n held c.frame.ensures.bytes c.handle-handled.result c.handle-handled.new.buffer c.handle-handled.ensures in
     record {
       reply_within = λ n e. omega (arith, reply_long _ _ _ c.handle-handled.ensures.handled e);
       room = omega (arith, c.requires, ap length told_text);
@@ -96,10 +83,10 @@ tell-end-requires c =
 
 pub returns : goal.returns
 returns c =
-    let held : line_of c.args.line.now 257 ≡ Frame c.in-Frame.n = sym c.frame.ensures.told ∙ c.in-Frame.is in
-    let told_text = good_text c.args.meter c.args.line.now c.frame.new.buffer c.in-Frame.n held c.frame.ensures.bytes c.handle-handled.result c.handle-handled.new.buffer c.handle-handled.ensures in
-    let told_meter = good_meter c.args.meter c.args.line.now c.frame.new.buffer c.in-Frame.n held c.frame.ensures.bytes c.handle-handled.result c.handle-handled.new.buffer c.handle-handled.ensures in
+    let held : line_of c.args.line.now 257 ≡ Some c.in-Some.n = sym c.frame.ensures.told ∙ c.in-Some.is in
+    let told_text = good_text c.args.meter.now c.args.line.now c.frame.new.buffer c.in-Some.n held c.frame.ensures.bytes c.handle-handled.result c.handle-handled.new.buffer c.handle-handled.ensures in
     record {
-      meter_and_end = (told_meter, rw (← told_text) c.tell-end.ensures.value);
-      text_after = rw (← told_text) c.tell-end.ensures.text_after;
+      meter_after = good_meter c.args.meter.now c.args.line.now c.frame.new.buffer c.in-Some.n held c.frame.ensures.bytes c.handle-handled.result c.handle-handled.new.buffer c.handle-handled.ensures;
+      value = c.tell.ensures.value ∙ ap length told_text;
+      text_after = c.tell.ensures.text_after ∙ ap (sets c.args.text.now 0) told_text;
     }

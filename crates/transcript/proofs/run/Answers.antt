@@ -1,7 +1,9 @@
 -- The text of the lines that are left, stored where the text ends so far, makes the whole one; it has room, since the whole text has.
-use lib.ListN.{length, take, drop, set, length-set, drop_of_length-le}
-use Rattle.std.proofs.Common.{◌≡◌, refl, ap, ◌∙◌, List, [], ◌∷◌, ◌++◌, ℕ, suc, ◌+◌, ◌-◌, ◌*◌, ◌≤◌, ◌<◌, arith}
-use lib.Seq.{sets, length-sets}
+use lib.ListN.{length, take, drop, set, length-set, length-take, length-drop, drop_of_length-le}
+use Rattle.std.proofs.Common.{◌≡◌, refl, ap, ◌∙◌, List, [], ◌∷◌, ◌++◌, append_assoc, append-nil, ℕ, suc, ◌+◌, ◌-◌, ◌*◌, ◌≤◌, ◌<◌, arith}
+use lib.Seq.{sets, sets-eq, length-sets, take_all, drop-drop}
+use borrow.Rule.Slice.PartMut.{put_mid}
+use Rattle.modbus.proofs.Stores.{sets_front}
 use Rattle.lines.specs.Lines.{line_length}
 use Rattle.transcript.specs.Transcript.{lines_of, transcript_of, line_text, meter_after, bench_given, bench_meter, bench_text}
 use Rattle.meter.specs.declared.Meter.{Meter}
@@ -26,6 +28,14 @@ turn text after line_text left from end s e =
     let next : end + 1 ≡ suc end = omega arith in
     rw (next, sets_append text from line_text (0x0A ∷ left), ← e, ← s)
 
+-- what is put at the start of the rest is put at its place in the whole
+placed : (text bytes : List ℕ) (at : ℕ) → at + length bytes ≤ length text → put_mid at (length text - at) text (sets (take (length text - at) (drop at text)) 0 bytes) ≡ sets text at bytes
+placed text bytes at h =
+    let rest : length (drop at text) ≡ length text - at = length-drop at text in
+    let all : take (length text - at) (drop at text) ≡ drop at text = take_all (length text - at) (drop at text) (omega arith) in
+    let none : drop (length text - at) (drop at text) ≡ [] = drop_of_length-le (drop at text) {i = length text - at} (omega arith) in
+    rw (all, none, sets_front (drop at text) bytes (omega arith), drop-drop (length bytes) at text, sets-eq bytes text at h) (simp (append-nil, append_assoc))
+
 -- a line, from `at` to `stop`
 module _ (input text : List ℕ) (m : Meter) (at end stop : ℕ) (inside : at < length input) (found : stop ≡ at + line_length (drop at input)) where
   abbrev line : List ℕ
@@ -40,64 +50,69 @@ module _ (input text : List ℕ) (m : Meter) (at end stop : ℕ) (inside : at < 
   left_length : length (transcript_of m (lines_of (drop at input))) ≡ length (line_text m line) + 1 + length (transcript_of (meter_after m line) behind)
   left_length = next_length input at stop inside found m
 
-  room : 32 * length input ≤ length text → end + length (transcript_of m (lines_of (drop at input))) ≡ length (bench_text input) → end + length (line_text m line) < length text
-  room whole so_far = omega (arith, left_length, whole, so_far, text_written.fits input)
+  -- with the whole of the room, and the text of the lines so far
+  module _ (whole : 32 * length input ≤ length text) (so_far : end + length (transcript_of m (lines_of (drop at input))) ≡ length (bench_text input)) where
+    room : end + length (line_text m line) < length text
+    room = omega (arith, left_length, whole, so_far, text_written.fits input)
 
-  -- and what the meter's answer to it leaves
-  module _ (next : Meter) (told : ℕ) (after : List ℕ) (e : next ≡ meter_after m line) (f : told ≡ end + length (line_text m line)) (g : after ≡ sets text end (line_text m line)) where
-    same_left : transcript_of next behind ≡ transcript_of (meter_after m line) behind
-    same_left = ap (λ (x : Meter). transcript_of x behind) e
+    rest_room : length (line_text m line) < length (take (length text - end) (drop end text))
+    rest_room = omega (arith, room, length-take (length text - end) (drop end text), length-drop end text)
 
-    same_room : length after ≡ length text
-    same_room = ap length g ∙ length-sets text end (line_text m line)
+    -- and what the meter's answer to it leaves
+    module _ (next : Meter) (told : ℕ) (after : List ℕ) (e : next ≡ meter_after m line) (f : told ≡ length (line_text m line)) (g : after ≡ sets (take (length text - end) (drop end text)) 0 (line_text m line)) where
+      same_left : transcript_of next behind ≡ transcript_of (meter_after m line) behind
+      same_left = ap (λ (x : Meter). transcript_of x behind) e
 
-    left_stored : sets (set after told 0x0A) (told + 1) (transcript_of next behind) ≡ sets text end (transcript_of m (lines_of (drop at input)))
-    left_stored = rw (same_left, next_text input at stop inside found m) (turn text after (line_text m line) _ end told g f)
+      put : put_mid end (length text - end) text after ≡ sets text end (line_text m line)
+      put = ap (put_mid end (length text - end) text) g ∙ placed text (line_text m line) end (omega (arith, room))
+
+      same_room : length (put_mid end (length text - end) text after) ≡ length text
+      same_room = ap length put ∙ length-sets text end (line_text m line)
+
+      feed_room : end + told < length (put_mid end (length text - end) text after)
+      feed_room = omega (arith, room, f, same_room)
+
+      left_told : end + told + 1 + length (transcript_of next behind) ≡ length (bench_text input)
+      left_told = omega (arith, f, ap length same_left, left_length, so_far)
+
+      left_stored : sets (set (put_mid end (length text - end) text after) (end + told) 0x0A) (end + told + 1) (transcript_of next behind) ≡ sets text end (transcript_of m (lines_of (drop at input)))
+      left_stored =
+          let ends : end + told ≡ end + length (line_text m line) = omega (arith, f) in
+          rw (same_left, next_text input at stop inside found m) (turn text _ (line_text m line) _ end (end + told) put ends)
 
 pub loop-at-init : goal.loop-at-init
 loop-at-init c =
     let b = begun c.of-new.result c.args.input.now c.of-new.ensures in
     (omega arith, refl, omega (arith, ap length b), rw b refl)
 
-pub slice_bounds-answer-count : goal.slice_bounds-answer-count
-slice_bounds-answer-count c = omega (arith, c.line_end-stop.ensures)
-
 pub slice_bounds-answer-end : goal.slice_bounds-answer-end
 slice_bounds-answer-end c = omega (arith, stops c.args.input.now c.loop-at.text c.loop-at.meter c.loop-at.at c.loop-at.end c.line_end-stop.result c.loop-at-test.true c.line_end-stop.ensures)
 
-pub answer-told-requires : goal.answer-told-requires
-answer-told-requires c = room c.args.input.now c.loop-at.text c.loop-at.meter c.loop-at.at c.loop-at.end c.line_end-stop.result c.loop-at-test.true c.line_end-stop.ensures (omega (arith, c.requires, c.loop-at.invariant.1)) c.loop-at.invariant.2
+pub slice_bounds-answer-count-in-loop-at : goal.slice_bounds-answer-count-in-loop-at
+slice_bounds-answer-count-in-loop-at c = omega (arith, room c.args.input.now c.loop-at.text c.loop-at.meter c.loop-at.at c.loop-at.end c.line_end-stop.result c.loop-at-test.true c.line_end-stop.ensures (omega (arith, c.requires, c.loop-at.invariant.1)) c.loop-at.invariant.2)
 
-pub bounds-text-end : goal.bounds-text-end
-bounds-text-end c =
-    let t = c.answer-told.ensures in
-    let fits = room c.args.input.now c.loop-at.text c.loop-at.meter c.loop-at.at c.loop-at.end c.line_end-stop.result c.loop-at-test.true c.line_end-stop.ensures (omega (arith, c.requires, c.loop-at.invariant.1)) c.loop-at.invariant.2 in
-    omega (arith, fits, t.meter_and_end.1, same_room c.args.input.now c.loop-at.text c.loop-at.meter c.loop-at.at c.loop-at.end c.line_end-stop.result c.loop-at-test.true c.line_end-stop.ensures c.answer-told.result.meter c.answer-told.result.end c.answer-told.new.text t.meter_and_end.0 t.meter_and_end.1 t.text_after)
+pub slice_bounds-answer-start-in-loop-at : goal.slice_bounds-answer-start-in-loop-at
+slice_bounds-answer-start-in-loop-at c = omega (arith, room c.args.input.now c.loop-at.text c.loop-at.meter c.loop-at.at c.loop-at.end c.line_end-stop.result c.loop-at-test.true c.line_end-stop.ensures (omega (arith, c.requires, c.loop-at.invariant.1)) c.loop-at.invariant.2)
+
+pub answer-end-requires : goal.answer-end-requires
+answer-end-requires c = rest_room c.args.input.now c.loop-at.text c.loop-at.meter c.loop-at.at c.loop-at.end c.line_end-stop.result c.loop-at-test.true c.line_end-stop.ensures (omega (arith, c.requires, c.loop-at.invariant.1)) c.loop-at.invariant.2
 
 pub overflow_add-end : goal.overflow_add-end
-overflow_add-end c =
-    let t = c.answer-told.ensures in
-    let fits = room c.args.input.now c.loop-at.text c.loop-at.meter c.loop-at.at c.loop-at.end c.line_end-stop.result c.loop-at-test.true c.line_end-stop.ensures (omega (arith, c.requires, c.loop-at.invariant.1)) c.loop-at.invariant.2 in
-    omega (arith, fits, t.meter_and_end.1, c.loop-at.invariant.1)
+overflow_add-end c = omega (arith, room c.args.input.now c.loop-at.text c.loop-at.meter c.loop-at.at c.loop-at.end c.line_end-stop.result c.loop-at-test.true c.line_end-stop.ensures (omega (arith, c.requires, c.loop-at.invariant.1)) c.loop-at.invariant.2, c.answer-end.ensures.value, c.loop-at.invariant.1)
 
-pub overflow_add-at : goal.overflow_add-at
-overflow_add-at c = omega (arith, stops c.args.input.now c.loop-at.text c.loop-at.meter c.loop-at.at c.loop-at.end c.line_end-stop.result c.loop-at-test.true c.line_end-stop.ensures)
+pub bounds-text-end : goal.bounds-text-end
+bounds-text-end c = feed_room c.args.input.now c.loop-at.text c.loop-at.meter c.loop-at.at c.loop-at.end c.line_end-stop.result c.loop-at-test.true c.line_end-stop.ensures (omega (arith, c.requires, c.loop-at.invariant.1)) c.loop-at.invariant.2 c.answer-end.new.meter c.answer-end.result c.answer-end.new.text c.answer-end.ensures.meter_after c.answer-end.ensures.value c.answer-end.ensures.text_after
 
-pub loop-at-smaller : goal.loop-at-smaller
-loop-at-smaller c = omega (arith, c.line_end-stop.ensures)
+pub overflow_add-end-in-loop-at : goal.overflow_add-end-in-loop-at
+overflow_add-end-in-loop-at c = omega (arith, room c.args.input.now c.loop-at.text c.loop-at.meter c.loop-at.at c.loop-at.end c.line_end-stop.result c.loop-at-test.true c.line_end-stop.ensures (omega (arith, c.requires, c.loop-at.invariant.1)) c.loop-at.invariant.2, c.answer-end.ensures.value, c.loop-at.invariant.1)
 
 pub loop-at-preserved : goal.loop-at-preserved
-loop-at-preserved c =
-    let inv = c.loop-at.invariant in
-    let t = c.answer-told.ensures in (
-      omega (arith, stops c.args.input.now c.loop-at.text c.loop-at.meter c.loop-at.at c.loop-at.end c.line_end-stop.result c.loop-at-test.true c.line_end-stop.ensures),
-      simp length-set (omega (arith, same_room c.args.input.now c.loop-at.text c.loop-at.meter c.loop-at.at c.loop-at.end c.line_end-stop.result c.loop-at-test.true c.line_end-stop.ensures c.answer-told.result.meter c.answer-told.result.end c.answer-told.new.text t.meter_and_end.0 t.meter_and_end.1 t.text_after, inv.1)),
-      omega (arith, t.meter_and_end.1, ap length (same_left c.args.input.now c.loop-at.text c.loop-at.meter c.loop-at.at c.loop-at.end c.line_end-stop.result c.loop-at-test.true c.line_end-stop.ensures c.answer-told.result.meter c.answer-told.result.end c.answer-told.new.text t.meter_and_end.0 t.meter_and_end.1 t.text_after), left_length c.args.input.now c.loop-at.text c.loop-at.meter c.loop-at.at c.loop-at.end c.line_end-stop.result c.loop-at-test.true c.line_end-stop.ensures, inv.2),
-      left_stored c.args.input.now c.loop-at.text c.loop-at.meter c.loop-at.at c.loop-at.end c.line_end-stop.result c.loop-at-test.true c.line_end-stop.ensures c.answer-told.result.meter c.answer-told.result.end c.answer-told.new.text t.meter_and_end.0 t.meter_and_end.1 t.text_after ∙ inv.3,
-    )
-
-pub shape_of-text : goal.shape_of-text
-shape_of-text c = c.loop-at.invariant.1
+loop-at-preserved c = (
+  omega (arith, stops c.args.input.now c.loop-at.text c.loop-at.meter c.loop-at.at c.loop-at.end c.line_end-stop.result c.loop-at-test.true c.line_end-stop.ensures),
+  simp length-set (same_room c.args.input.now c.loop-at.text c.loop-at.meter c.loop-at.at c.loop-at.end c.line_end-stop.result c.loop-at-test.true c.line_end-stop.ensures (omega (arith, c.requires, c.loop-at.invariant.1)) c.loop-at.invariant.2 c.answer-end.new.meter c.answer-end.result c.answer-end.new.text c.answer-end.ensures.meter_after c.answer-end.ensures.value c.answer-end.ensures.text_after ∙ c.loop-at.invariant.1),
+  left_told c.args.input.now c.loop-at.text c.loop-at.meter c.loop-at.at c.loop-at.end c.line_end-stop.result c.loop-at-test.true c.line_end-stop.ensures (omega (arith, c.requires, c.loop-at.invariant.1)) c.loop-at.invariant.2 c.answer-end.new.meter c.answer-end.result c.answer-end.new.text c.answer-end.ensures.meter_after c.answer-end.ensures.value c.answer-end.ensures.text_after,
+  left_stored c.args.input.now c.loop-at.text c.loop-at.meter c.loop-at.at c.loop-at.end c.line_end-stop.result c.loop-at-test.true c.line_end-stop.ensures (omega (arith, c.requires, c.loop-at.invariant.1)) c.loop-at.invariant.2 c.answer-end.new.meter c.answer-end.result c.answer-end.new.text c.answer-end.ensures.meter_after c.answer-end.ensures.value c.answer-end.ensures.text_after ∙ c.loop-at.invariant.3,
+)
 
 pub returns : goal.returns
 returns c =

@@ -1,13 +1,13 @@
 -- The items send just the words asked for, and a frame has room for these with their head and CRC.
 use lib.ListN.{length, length-set}
 use Rattle.std.proofs.Common.{◌≡◌, ap, ◌∙◌, ◌∷◌, ℕ, ◌+◌, ◌*◌, ◌≤◌, arith}
-use lib.Seq.{sets, length-sets}
+use lib.Seq.{sets}
 use Rattle.crc.proofs.Laws.{length_sealed}
 use Rattle.directory.specs.Item.{items}
 use Rattle.modbus.specs.Frame.{address_of, function_of, word_number}
 use Rattle.modbus.proofs.Stores.{seals}
 use Rattle.registers.specs.Shown.{shown_of}
-use Rattle.board.specs.Reads.{items_sent, data_reply}
+use Rattle.board.specs.Reads.{items_sent}
 use Rattle.board.proofs.Sent.{length_items}
 use Rattle.board.proofs.reads.put_data.Goals as goal
 
