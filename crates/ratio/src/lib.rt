@@ -7,7 +7,7 @@ ghost use Rattle.ratio.specs.Ratios.{ratios_ok, t_of};
 ghost use Rattle.ratio.specs.Powers.{power_unit, power_register, power_limit};
 ghost use Rattle.ratio.specs.Steps.{step_of};
 
-#[derive(Clone, Copy)]
+#[derive(Clone, Copy, Debug, PartialEq, Eq)]
 pub struct Ratios {
     // KTA, the current transformer, a whole number.
     pub kta: u16,
@@ -29,16 +29,15 @@ impl Ratios {
     pub fn within(self) -> bool
         ensures { result ≡ ratios_ok self }
     {
-        (Ratios::KTA_LEAST <= self.kta)
-            & (self.kta <= Ratios::KTA_TOP)
-            & ((Ratios::KTV_LEAST <= self.ktv) & (self.ktv <= Ratios::KTV_TOP))
+        (Ratios::KTA_LEAST..=Ratios::KTA_TOP).contains(&self.kta)
+            && (Ratios::KTV_LEAST..=Ratios::KTV_TOP).contains(&self.ktv)
     }
 
     // T, which is KTA x KTV: the true ratio in tenths.
     pub fn tenths(self) -> u32
         ensures { result ≡ t_of self }
     {
-        self.kta as u32 * self.ktv as u32
+        u32::from(self.kta) * u32::from(self.ktv)
     }
 }
 
@@ -49,6 +48,7 @@ pub const WHOLE_UNIT: u64 = 100;
 const WHOLE_UNITS_FROM: u32 = 50_000;
 
 // The hundredths of W, var or VA that one count of a power register stands for.
+#[tactic(auto, unfolding(crate::specs::Powers::power_unit))]
 pub fn power_unit(t: u32) -> u64
     ensures { result ≡ power_unit t }
 {
@@ -63,6 +63,7 @@ pub fn power_register(t: u32, hundredths: u64) -> u64
 }
 
 // The largest magnitude that a power may have, in hundredths of W, var or VA.
+#[tactic(auto, unfolding(crate::specs::Powers::power_limit))]
 pub fn power_limit(t: u32) -> u64
     ensures { result ≡ power_limit t }
 {

@@ -5,30 +5,25 @@
 ghost use Rattle.std.specs.Prelude.{◌≡◌};
 ghost use Rattle.signed.specs.Signs.{signed_of, above_of, below_of};
 
-#[derive(Clone, Copy)]
+#[derive(Clone, Copy, Debug, PartialEq, Eq)]
 pub struct Signed {
     pub negative: bool,
     // In the unit of the number.
     pub magnitude: u64,
 }
 
-impl Signed {
-    // A number in this form. The magnitude of a negative one is its complement plus 1, which fits for the least i64 too.
-    pub fn of(number: i64) -> Signed
-        ensures { result ≡ signed_of number }
-    {
-        if number < 0 {
-            return Signed {
-                negative: true,
-                magnitude: (!number) as u64 + 1,
-            };
-        }
+impl From<i64> for Signed {
+    ghost from_gives = { λ number signed. signed ≡ signed_of number };
+
+    fn from(number: i64) -> Signed {
         Signed {
-            negative: false,
-            magnitude: number as u64,
+            negative: number.is_negative(),
+            magnitude: number.unsigned_abs(),
         }
     }
+}
 
+impl Signed {
     // The number if it is positive, else 0.
     pub fn above(self) -> u64
         ensures { result ≡ above_of self }
