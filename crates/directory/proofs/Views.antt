@@ -8,11 +8,10 @@ use lib.Dec.{T, leb, leb→le}
 use lib.ListN.{length, get_or, take, drop}
 use lib.Seq.{length-take-le, get_or-take, take-take}
 use Rattle.directory.specs.declared.Item.{Item}
-use Rattle.directory.specs.declared.Reach.{Reach}
 use Rattle.directory.specs.Item.{items, none}
 use Rattle.directory.specs.Order.{every, narrow, ruled, shaped, meant, tested}
 use Rattle.directory.specs.Run.{run_items}
-use Rattle.directory.specs.Views.{View, passes, view_of, Lent}
+use Rattle.directory.specs.Views.{View, passes, view_of, Lent, Asked}
 use Rattle.directory.proofs.Flat.{items_length, items_part}
 use Rattle.directory.proofs.Order.{left, right, every_run, ruled_every}
 
@@ -59,12 +58,23 @@ seen_run its zero (suc first) count h = absurd (omega (arith, h))
 seen_run [] (suc n) (suc first) count h = refl
 seen_run (it ∷ its) (suc n) (suc first) count h = seen_run its n first count (omega (arith, h))
 
-module _ (t : List ℕ) (reach : Reach) (lent : Lent t reach) (first count : ℕ) (inside : first + count ≤ length (view_of t reach).seen) where
+module _ (t : List ℕ) (seen most : ℕ) (lent : Lent t seen most) (first count : ℕ) (inside : first + count ≤ length (view_of t seen most).seen) where
   pub run_room : 4 * (first + count) ≤ length t
-  run_room = omega (arith, inside, view_length t reach.items lent.holds, lent.holds)
+  run_room = omega (arith, inside, view_length t seen lent.holds, lent.holds)
 
-  pub run_part : items (take (4 * count) (drop (4 * first) t)) ≡ run_items (view_of t reach).seen first count
-  run_part = items_part t first count run_room ∙ sym (seen_run (items t) reach.items first count (omega (arith, inside, view_length t reach.items lent.holds)))
+  pub run_part : items (take (4 * count) (drop (4 * first) t)) ≡ run_items (view_of t seen most).seen first count
+  run_part = items_part t first count run_room ∙ sym (seen_run (items t) seen first count (omega (arith, inside, view_length t seen lent.holds)))
+
+  pub run_asked : Asked (items (take (4 * count) (drop (4 * first) t)))
+  run_asked =
+      let good = passes_tested (view_of t seen most) lent.good in
+      rw run_part (record { shapely = every_run shaped (view_of t seen most).seen first count (tested_shaped (view_of t seen most).seen good); means = every_run meant (view_of t seen most).seen first count (tested_meant (view_of t seen most).seen good) })
 
   pub run_narrow : T (every narrow (items (take (4 * count) (drop (4 * first) t))))
-  run_narrow = rw run_part (every_run narrow (view_of t reach).seen first count (ruled_every (view_of t reach).seen (passes_ruled (view_of t reach) lent.good)))
+  run_narrow = rw run_part (every_run narrow (view_of t seen most).seen first count (ruled_every (view_of t seen most).seen (passes_ruled (view_of t seen most) lent.good)))
+
+-- ---- some items, taken from the front
+
+pub asked_rest : (it : Item) (its : List Item) → Asked (it ∷ its) → Asked its
+unfolding every
+asked_rest it its h = record { shapely = right (shaped it) _ h.shapely; means = right (meant it) _ h.means }

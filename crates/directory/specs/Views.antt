@@ -2,9 +2,8 @@
 -- is said of reads is said of every view that passes the tests; paper 01's own (the crate `own`) enters by them.
 use Rattle.std.specs.Prelude.{ℕ, ◌+◌, ◌*◌, ◌≤◌, Bool, ◌&&◌, List, T, leb, length, take}
 use Rattle.directory.specs.declared.Item.{Item}
-use Rattle.directory.specs.declared.Reach.{Reach}
 use Rattle.directory.specs.Item.{items}
-use Rattle.directory.specs.Order.{tested}
+use Rattle.directory.specs.Order.{every, shaped, meant, tested}
 
 -- the directory that is seen, and the most words of a read
 pub record View : Type 0 where
@@ -16,10 +15,15 @@ abbrev pub passes : View → Bool
 passes v = tested v.seen && (leb 2 v.most && leb (5 + 2 * v.most) 256)
 
 -- the view that a flat table gives, of which the first items may be read
-abbrev pub view_of : List ℕ → Reach → View
-view_of t reach = record { seen = take reach.items (items t); most = reach.most }
+abbrev pub view_of : List ℕ → ℕ → ℕ → View
+view_of t seen most = record { seen = take seen (items t); most = most }
 
--- what functions ask of a table that they are lent: it holds the items that may be read, and these pass the tests
-pub record Lent (t : List ℕ) (reach : Reach) : Type 0 where
-  pub holds : 4 * reach.items ≤ length t
-  pub good : T (passes (view_of t reach))
+-- what is true of the table of a directory: it holds the items that may be read, and these pass the tests
+pub record Lent (t : List ℕ) (seen most : ℕ) : Type 0 where
+  pub holds : 4 * seen ≤ length t
+  pub good : T (passes (view_of t seen most))
+
+-- what is true of the items that are asked for: each is one of a directory that passes the tests
+pub record Asked (its : List Item) : Type 0 where
+  pub shapely : T (every shaped its)
+  pub means : T (every meant its)

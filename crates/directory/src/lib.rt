@@ -5,12 +5,14 @@
 
 pub mod quantity;
 
-ghost use Rattle.std.specs.Prelude.{◌≡◌, ◌+◌, ◌*◌, ◌≤◌, length, take, drop, get_or, T};
+ghost use Rattle.std.specs.Prelude.{◌≡◌, ◌+◌, ◌*◌, ◌≤◌, ◌<◌, length, get_or};
+ghost use Rattle.std.specs.Iterator.{YieldsFirst, item_count};
 ghost use Rattle.directory.specs.Item.{items, none, is_b};
-ghost use Rattle.directory.specs.Order.{ruled};
-ghost use Rattle.directory.specs.Run.{find_in, run_in};
+ghost use Rattle.directory.specs.Run.{find_in, run_in, run_items};
+ghost use Rattle.directory.specs.Views.{view_of, Lent};
 
 use refusal::ErrorCode;
+use std::marker::Model;
 
 #[derive(Clone, Copy, Debug, PartialEq, Eq)]
 pub struct Item {
@@ -39,15 +41,6 @@ impl Item {
 // A table is flat: four numbers are one item, in the order of the fields of `Item`.
 pub const NUMBERS_PER_ITEM: usize = 4;
 
-// How much of a table may be read. It is handed on with the table.
-#[derive(Clone, Copy, Debug, PartialEq, Eq)]
-pub struct Reach {
-    // How many of the table's items, from its first on.
-    pub items: usize,
-    // The most words of one read.
-    pub most: u16,
-}
-
 // The items that a read asks for: `count` of them, from the index `first` on.
 #[derive(Clone, Copy, Debug, PartialEq, Eq)]
 pub struct Span {
@@ -55,71 +48,173 @@ pub struct Span {
     pub count: usize,
 }
 
-// The run of items for `words` words from the address `start`, among the first `seen` items of a table, or what is wrong with it. Only the first of the run
-// is searched for: the table ascends, so the item that starts where another ends can only be the next one.
-pub fn run_in(table: &[u16], seen: usize, start: u16, words: u16) -> Result<Span, ErrorCode>
-    requires { (4 * seen ≤ length table.now) × T (ruled (take seen (items table.now))) }
-    ensures { result ≡ run_in (take seen (items table.now)) start words }
-{
-    let first = find_in(table, seen, start).ok_or(ErrorCode::Address)?;
-    let mut i = first;
-    let mut next = u32::from(start);
-    let mut due = words;
-    while 0 < due {
-        if seen <= i {
-            return Err(ErrorCode::Address);
-        }
-        let it = item_at(table, i);
-        if u32::from(it.start) != next {
-            return Err(ErrorCode::Address);
-        }
-        if due < it.words {
-            return Err(ErrorCode::Data);
-        }
-        next += u32::from(it.fills);
-        due -= it.words;
-        i += 1;
-    }
-    Ok(Span {
-        first,
-        count: i - first,
-    })
+// What a read is judged by: a flat table of items, of which the first ones are seen, and the most words of one read. In contracts it is
+// the view that they make.
+#[derive(Drop)]
+pub struct Directory<'a> {
+    numbers: &'a [u16],
+    seen: usize,
+    most: u16,
 }
 
-// The index of the item that starts at an address. The table ascends, so a search by halves finds it.
-fn find_in(table: &[u16], seen: usize, address: u16) -> Option<usize>
-    requires { (4 * seen ≤ length table.now) × T (ruled (take seen (items table.now))) }
-    ensures { result ≡ find_in (take seen (items table.now)) address 0 }
-{
-    let mut low: usize = 0;
-    let mut high: usize = seen;
-    while low < high {
-        let middle = low + (high - low) / 2;
-        let it = item_at(table, middle);
-        if it.start == address {
-            return Some(middle);
-        }
-        if it.start < address {
-            low = middle + 1;
-        } else {
-            high = middle;
+impl<'a> Model for Directory<'a> {
+    ghost use Rattle.directory.specs.Views.{View, view_of, Lent};
+
+    ghost Value = { View };
+
+    ghost view = { λ d. view_of d.numbers.now d.seen d.most };
+
+    ghost invariant = { λ d. Lent d.numbers.now d.seen d.most };
+}
+
+impl<'a> Directory<'a> {
+    // Of a table, its first `seen` items, which have to pass the tests.
+    pub fn of(numbers: &'a [u16], seen: usize, most: u16) -> Directory<'a>
+        requires { Lent numbers.now seen most }
+        ensures { result ≡ view_of numbers.now seen most }
+    {
+        Directory {
+            numbers,
+            seen,
+            most,
         }
     }
-    None
+
+    // The most words of one read.
+    pub fn most(&self) -> u16
+        ensures { result ≡ self.now.most }
+    {
+        self.most
+    }
+
+    // The item with index i.
+    pub fn item(&self, i: usize) -> Item
+        requires { i < length self.now.seen }
+        ensures { result ≡ get_or self.now.seen i none }
+    {
+        item_at(self.numbers, i)
+    }
+
+    // The run of items for `words` words from the address `start`, or what is wrong with it. Only the first of the run is searched for:
+    // the table ascends, so the item that starts where another ends can only be the next one.
+    pub fn run(&self, start: u16, words: u16) -> Result<Span, ErrorCode>
+        ensures { result ≡ run_in self.now.seen start words }
+    {
+        let first = self.find(start).ok_or(ErrorCode::Address)?;
+        let mut i = first;
+        let mut next = u32::from(start);
+        let mut due = words;
+        while 0 < due {
+            if self.seen <= i {
+                return Err(ErrorCode::Address);
+            }
+            let it = item_at(self.numbers, i);
+            if u32::from(it.start) != next {
+                return Err(ErrorCode::Address);
+            }
+            if due < it.words {
+                return Err(ErrorCode::Data);
+            }
+            next += u32::from(it.fills);
+            due -= it.words;
+            i += 1;
+        }
+        Ok(Span {
+            first,
+            count: i - first,
+        })
+    }
+
+    // The index of the item that starts at an address. The table ascends, so a search by halves finds it.
+    fn find(&self, address: u16) -> Option<usize>
+        ensures { result ≡ find_in self.now.seen address 0 }
+    {
+        let mut low: usize = 0;
+        let mut high: usize = self.seen;
+        while low < high {
+            let middle = low + (high - low) / 2;
+            let it = item_at(self.numbers, middle);
+            if it.start == address {
+                return Some(middle);
+            }
+            if it.start < address {
+                low = middle + 1;
+            } else {
+                high = middle;
+            }
+        }
+        None
+    }
+
+    // The items of a span.
+    pub fn part(&self, span: Span) -> Items<'a>
+        requires { span.first + span.count ≤ length self.now.seen }
+        ensures { result ≡ run_items self.now.seen span.first span.count }
+    {
+        let numbers = self.numbers;
+        let from = NUMBERS_PER_ITEM * span.first;
+        let to = from + NUMBERS_PER_ITEM * span.count;
+        Items {
+            numbers: &numbers[from..to],
+        }
+    }
 }
 
-// The part of a table that holds a run of its items.
-pub fn part(table: &[u16], first: usize, count: usize) -> &[u16]
-    requires { 4 * (first + count) ≤ length table.now }
-    ensures { result.now ≡ take (4 * count) (drop (4 * first) table.now) }
-{
-    let from = NUMBERS_PER_ITEM * first;
-    let to = from + NUMBERS_PER_ITEM * count;
-    &table[from..to]
+// Some items of a directory, one behind the other; an iterator over them.
+#[derive(Drop)]
+pub struct Items<'a> {
+    numbers: &'a [u16],
 }
 
-// The item with index i.
-pub fn item_at(table: &[u16], i: usize) -> Item
+impl<'a> Model for Items<'a> {
+    ghost use Rattle.std.specs.Prelude.{List};
+    ghost use Rattle.directory.specs.declared.Item.{Item};
+    ghost use Rattle.directory.specs.Item.{items};
+    ghost use Rattle.directory.specs.Views.{Asked};
+
+    ghost Value = { List Item };
+
+    ghost view = { λ a. items a.numbers.now };
+
+    ghost invariant = { λ a. Asked (items a.numbers.now) };
+}
+
+impl<'a> Items<'a> {
+    // How many there are.
+    pub fn len(&self) -> usize
+        ensures { result ≡ length self.now }
+    {
+        self.numbers.len() / NUMBERS_PER_ITEM
+    }
+
+    // The item with index i.
+    pub fn item(&self, i: usize) -> Item
+        requires { i < length self.now }
+        ensures { result ≡ get_or self.now i none }
+    {
+        item_at(self.numbers, i)
+    }
+}
+
+impl<'a> Iterator for Items<'a> {
+    type Item = Item;
+
+    ghost next_gives = { YieldsFirst (λ its. its) };
+
+    ghost remaining = { item_count (λ its. its) };
+
+    fn next(&mut self) -> Option<Item> {
+        if self.numbers.len() < NUMBERS_PER_ITEM {
+            return None;
+        }
+        let it = item_at(self.numbers, 0);
+        self.numbers = &self.numbers[NUMBERS_PER_ITEM..];
+        Some(it)
+    }
+}
+
+// The item with index i of a flat table.
+fn item_at(table: &[u16], i: usize) -> Item
     requires { 4 * i + 4 ≤ length table.now }
     ensures { result ≡ get_or (items table.now) i none }
 {

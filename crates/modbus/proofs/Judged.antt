@@ -11,14 +11,13 @@ use borrow.Author.Tests.{ltb-false, eqb-true, eqb-false, eq-eqb}
 use Rattle.std.specs.Prelude.{Result, Ok, Err}
 use Rattle.refusal.specs.declared.ErrorCode.{ErrorCode}
 use Rattle.refusal.specs.declared.ErrorCode.TheVariants.{Function, Address, Data}
-use Rattle.directory.specs.declared.Reach.{Reach}
 use Rattle.directory.specs.declared.Span.{Span}
 use Rattle.directory.specs.Item.{items}
 use Rattle.directory.specs.Order.{every, narrow}
 use Rattle.directory.specs.Run.{run_in, run_items, words_of, span}
-use Rattle.directory.specs.Views.{View, passes, view_of, Lent}
+use Rattle.directory.specs.Views.{View, passes}
 use Rattle.directory.proofs.Errors.{no_run, data_sound, run_sound}
-use Rattle.directory.proofs.Views.{passes_ruled, passes_room, run_room, run_part, run_narrow}
+use Rattle.directory.proofs.Views.{passes_ruled, passes_room}
 use Rattle.directory.proofs.Sends.{run_sends}
 use Rattle.directory.specs.Tenant.{for_tenant, leading, tenant_of}
 use Rattle.directory.proofs.Tenant.{tenant_passes, tenant_long, run_first, run_within}
@@ -125,26 +124,16 @@ module _ (v : View) (good : T (passes v)) (frame : List ℕ) where
     leaves = λ first count e more. leaves first count e (omega (arith, more));
   }
 
--- ---- over a table that is lent
+-- ---- what is read
 
--- the part of the table that holds the items asked for; they send the words asked, which a reply has room for
-pub record AskedPart (t : List ℕ) (reach : Reach) (frame : List ℕ) (first count : ℕ) : Type 0 where
-  pub inside : 4 * (first + count) ≤ length t
-  pub holds : items (take (4 * count) (drop (4 * first) t)) ≡ run_items (view_of t reach).seen first count
-  pub narrow : T (every narrow (items (take (4 * count) (drop (4 * first) t))))
+-- the items asked for stand among those seen, each sends one word or two, and all together the words asked, which a reply has room for
+pub record AskedItems (v : View) (frame : List ℕ) (asked : Span) : Type 0 where
+  pub inside : asked.first + asked.count ≤ length v.seen
   pub long : length frame ≡ 8
-  pub sends : words_of (items (take (4 * count) (drop (4 * first) t))) ≡ word_number frame
+  pub sends : words_of (run_items v.seen asked.first asked.count) ≡ word_number frame
   pub room : 5 + 2 * word_number frame ≤ 256
 
-pub asked_part : (t : List ℕ) (reach : Reach) → Lent t reach → {frame : List ℕ} {first count : ℕ} → read_in (view_of t reach) frame ≡ Ok (span first count) → AskedPart t reach frame first count
-asked_part t reach lent {first = first} {count = count} e =
-    let v = view_of t reach in
-    let l = legal_read v lent.good e in
-    record {
-      inside = run_room t reach lent first count l.inside;
-      holds = run_part t reach lent first count l.inside;
-      narrow = run_narrow t reach lent first count l.inside;
-      long = l.long;
-      sends = ap words_of (run_part t reach lent first count l.inside) ∙ l.sends;
-      room = omega (arith, l.most, passes_room v lent.good);
-    }
+pub asked_items : (v : View) → T (passes v) → {frame : List ℕ} {asked : Span} → read_in v frame ≡ Ok asked → AskedItems v frame asked
+asked_items v good {asked = asked} e =
+    let l = legal_read v good e in
+    record { inside = l.inside; long = l.long; sends = l.sends; room = omega (arith, l.most, passes_room v good) }

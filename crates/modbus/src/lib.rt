@@ -4,12 +4,11 @@
 
 ghost use Rattle.std.specs.Prelude.{◌≡◌, ◌+◌, ◌*◌, ◌≤◌, ◌<◌, length};
 ghost use Rattle.std.proofs.lemmas.List.Edits.{sets};
-ghost use Rattle.directory.specs.Views.{view_of, Lent};
 ghost use Rattle.modbus.specs.Frame.{function_of, silence, write_shaped, words_at};
 ghost use Rattle.modbus.specs.Read.{read_in};
 ghost use Rattle.modbus.specs.Replies.{error_reply, echo_reply};
 
-use directory::{Reach, Span};
+use directory::{Directory, Span};
 use refusal::ErrorCode;
 
 // The two functions that a meter carries out.
@@ -66,19 +65,18 @@ pub fn silence(own: u8, frame: &[u8]) -> bool
     !crc::intact(frame)
 }
 
-// Judges a read by a table: the items that it asks for, or what is wrong with it.
-pub fn read_in(table: &[u16], reach: Reach, frame: &[u8]) -> Result<Span, ErrorCode>
-    requires { Lent table.now reach }
-    ensures { result ≡ read_in (view_of table.now reach) frame.now }
+// Judges a read by a directory: the items that it asks for, or what is wrong with it.
+pub fn read_in(directory: &Directory, frame: &[u8]) -> Result<Span, ErrorCode>
+    ensures { result ≡ read_in directory.now frame.now }
 {
     if frame.len() != READ_LENGTH {
         return Err(ErrorCode::Data);
     }
     let words = words::word_at(frame, WORDS_AT);
-    if (words < 1) | (reach.most < words) {
+    if (words < 1) | (directory.most() < words) {
         return Err(ErrorCode::Data);
     }
-    directory::run_in(table, reach.items, words::word_at(frame, START_AT), words)
+    directory.run(words::word_at(frame, START_AT), words)
 }
 
 // Whether a write has at least one word, and its byte number and its length fit the number of words.
@@ -99,10 +97,8 @@ pub fn values(frame: &[u8], into: &mut [u16])
     requires { 7 + 2 * length into.old ≤ length frame.now }
     ensures { into.new ≡ words_at (length into.old) frame.now 7 }
 {
-    let mut i: usize = 0;
-    while i < into.len() {
+    for i in 0..into.len() {
         into[i] = words::word_at(frame, WRITE_HEAD + 2 * i);
-        i += 1;
     }
 }
 
@@ -125,11 +121,7 @@ pub fn put_echo(frame: &[u8], buffer: &mut [u8]) -> usize
     ensures value { result ≡ length (echo_reply frame.now) }
     ensures buffer_after { buffer.new ≡ sets buffer.old 0 (echo_reply frame.now) }
 {
-    let mut i: usize = 0;
-    while i < 6 {
-        buffer[i] = frame[i];
-        i += 1;
-    }
+    buffer[..6].copy_from_slice(&frame[..6]);
     crc::put(buffer, 6);
     8
 }

@@ -1,12 +1,12 @@
 -- The tests computed over the whole table, and the table as it is lent.
 use mathlib.Core.Path.{◌≡◌, refl, sym, ap, subst, ◌∙◌}
 use mathlib.Core.List.{List}
+use Prim.Native.Nat.{ℕ}
 use native.Mathlib.Omega.{arith}
 use lib.Dec.{T}
 use lib.ListN.{length, take}
 use lib.Seq.{take_all}
 use Rattle.directory.specs.declared.Item.{Item}
-use Rattle.directory.specs.declared.Reach.{Reach}
 use Rattle.directory.specs.Order.{ascends, every, ruled}
 use Rattle.directory.specs.Views.{View, passes, view_of, Lent}
 use Rattle.directory.proofs.Flat.{items_length, flat, items_flat}
@@ -14,7 +14,7 @@ use Rattle.directory.specs.Tenant.{for_tenant, leading, tenant_of}
 use Rattle.directory.proofs.Views.{passes_ruled}
 use Rattle.directory.proofs.Tenant.{tenant_passes}
 use Rattle.own.specs.Table.{directory}
-use Rattle.own.specs.Own.{own, own_reach, tenant_reach}
+use Rattle.own.specs.Own.{own}
 use Rattle.own.specs.OwnRules.{OwnPasses, count_of, TenantView, places_of, ThreeTables, AveragePlaces}
 use Rattle.own.specs.Kinds.{first_of_kind, KindsInOrder}
 
@@ -34,34 +34,28 @@ pub own_passes : OwnPasses
 own_passes = record { count = directory_count; most = refl; passed = passed }
 
 -- the constant table, seen whole
-module _ (reach : Reach) (whole : reach ≡ own_reach) where
-  pub own_view : view_of (flat directory) reach ≡ own
-  own_view =
-      ap (view_of (flat directory)) whole
-      ∙ ap (λ (its : List Item). record { seen = its; most = own.most }) (ap (take 148) (items_flat directory) ∙ take_all 148 directory (omega (arith, directory_count)))
+pub own_view : view_of (flat directory) 148 120 ≡ own
+own_view = ap (λ (its : List Item). record { seen = its; most = own.most }) (ap (take 148) (items_flat directory) ∙ take_all 148 directory (omega (arith, directory_count)))
 
-  pub own_lent : Lent (flat directory) reach
-  own_lent = record {
-    holds = omega (arith, ap (λ (r : Reach). r.items) whole, items_length (flat directory), ap length (items_flat directory), directory_count);
-    good = subst (λ (v : View). T (passes v)) (sym own_view) passed;
-  }
+pub own_lent : Lent (flat directory) 148 120
+own_lent = record {
+  holds = omega (arith, items_length (flat directory), ap length (items_flat directory), directory_count);
+  good = subst (λ (v : View). T (passes v)) (sym own_view) passed;
+}
 
 -- and as far as a tenant sees it
 pub tenant_count : leading for_tenant directory ≡ 83
 unfolding leading directory
 tenant_count = refl
 
-module _ (reach : Reach) (first : reach ≡ tenant_reach) where
-  pub tenant_seen : view_of (flat directory) reach ≡ tenant_of own
-  tenant_seen =
-      ap (view_of (flat directory)) first
-      ∙ ap (λ (its : List Item). record { seen = take (leading for_tenant directory) its; most = own.most }) (items_flat directory)
+pub tenant_seen : view_of (flat directory) 83 120 ≡ tenant_of own
+tenant_seen = ap (λ (its : List Item). record { seen = its; most = own.most }) (ap (take 83) (items_flat directory) ∙ ap (λ (n : ℕ). take n directory) (sym tenant_count))
 
-  pub tenant_lent : Lent (flat directory) reach
-  tenant_lent = record {
-    holds = omega (arith, ap (λ (r : Reach). r.items) first, tenant_count, items_length (flat directory), ap length (items_flat directory), directory_count);
-    good = subst (λ (v : View). T (passes v)) (sym tenant_seen) (tenant_passes own passed);
-  }
+pub tenant_lent : Lent (flat directory) 83 120
+tenant_lent = record {
+  holds = omega (arith, items_length (flat directory), ap length (items_flat directory), directory_count);
+  good = subst (λ (v : View). T (passes v)) (sym tenant_seen) (tenant_passes own passed);
+}
 
 pub tenant_view : TenantView
 unfolding leading count_of places_of every directory

@@ -6,10 +6,11 @@ pub mod table;
 
 ghost use Rattle.std.specs.Prelude.{◌≡◌};
 ghost use Rattle.directory.specs.Run.{run_in};
+ghost use Rattle.directory.specs.Tenant.{tenant_of};
 ghost use Rattle.own.specs.Table.{directory};
-ghost use Rattle.own.specs.Own.{own_reach, tenant_reach};
+ghost use Rattle.own.specs.Own.{own};
 
-use directory::{Reach, Span};
+use directory::{Directory, Span};
 use refusal::ErrorCode;
 
 // How many items the table has.
@@ -19,26 +20,20 @@ pub const ITEMS: usize = 148;
 const MOST_WORDS: u16 = 120;
 
 // The whole table.
-pub fn reach() -> Reach
-    ensures { result ≡ own_reach }
+pub fn directory() -> Directory<'static>
+    ensures { result ≡ own }
 {
-    Reach {
-        items: ITEMS,
-        most: MOST_WORDS,
-    }
+    Directory::of(&table::TABLE, ITEMS, MOST_WORDS)
 }
 
 // How many of them a tenant sees (paper 02, request 3): the byte block and the words 0x1000 to 0x103d, which come first.
 pub const TENANT_ITEMS: usize = 83;
 
 // A tenant's part of the table, and as many words.
-pub fn tenant_reach() -> Reach
-    ensures { result ≡ tenant_reach }
+pub fn tenant_directory() -> Directory<'static>
+    ensures { result ≡ tenant_of own }
 {
-    Reach {
-        items: TENANT_ITEMS,
-        most: MOST_WORDS,
-    }
+    Directory::of(&table::TABLE, TENANT_ITEMS, MOST_WORDS)
 }
 
 // The run of items for `words` words from the address `start`. Any number of words is taken: the limit of one read is
@@ -46,5 +41,5 @@ pub fn tenant_reach() -> Reach
 pub fn run(start: u16, words: u16) -> Result<Span, ErrorCode>
     ensures { result ≡ run_in directory start words }
 {
-    directory::run_in(&table::TABLE, ITEMS, start, words)
+    directory().run(start, words)
 }

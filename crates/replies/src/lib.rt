@@ -2,10 +2,9 @@
 #![tactic(auto)]
 
 ghost use Rattle.std.specs.Prelude.{◌≡◌, ◌≤◌, length};
-ghost use Rattle.directory.specs.Views.{view_of, Lent};
 ghost use Rattle.replies.specs.Judged.{heard, error_of, reply_of, judged_in};
 
-use directory::{Reach, Span};
+use directory::{Directory, Span};
 use ratio::Ratios;
 use reading::Answer;
 use refusal::{ErrorCode, Refusal};
@@ -69,16 +68,14 @@ impl fmt::Display for Unread {
 
 impl Error for Unread {}
 
-// Judges a request and its reply, over a table that is lent: the items asked for, where there is data that fits.
+// Judges a request and its reply, by a directory: the items asked for, where there is data that fits.
 pub fn judge(
-    table: &[u16],
-    reach: Reach,
+    directory: &Directory,
     request: &[u8],
     reply: &[u8],
     ratios: Ratios,
 ) -> Result<Span, Unread>
-    requires { Lent table.now reach }
-    ensures { result ≡ judged_in (view_of table.now reach) request.now reply.now ratios }
+    ensures { result ≡ judged_in directory.now request.now reply.now ratios }
 {
     if !ratios.within() {
         return Err(Unread::Refused(Refusal::RatioOutOfLimits));
@@ -86,7 +83,7 @@ pub fn judge(
     if !heard(request) {
         return Err(Unread::Refused(Refusal::NotARead));
     }
-    let Ok(asked) = modbus::read_in(table, reach, request) else {
+    let Ok(asked) = modbus::read_in(directory, request) else {
         return Err(Unread::Refused(Refusal::NotARead));
     };
     replied(request, reply)?;

@@ -1,5 +1,5 @@
 -- The words that are left to read, stored behind those that were, are all of them; they fill the array, so nothing of it is left.
-use lib.ListN.{length, length-set}
+use lib.ListN.{length}
 use Rattle.std.proofs.Common.{refl, sym, ap, ◌∙◌, ◌+◌, ◌*◌, arith}
 use native.Mathlib.Nat.{sub-zero}
 use lib.Seq.{sets}
@@ -9,17 +9,12 @@ use Rattle.modbus.proofs.Rows.{length_words, sets_words, words_none}
 use Rattle.modbus.proofs.values.Goals as goal
 
 pub loop-i-init : goal.loop-i-init
-loop-i-init c = (omega arith, refl, rw (sub-zero (length c.args.into.now)) refl)
+loop-i-init c = rw (sub-zero (length c.args.into.now)) refl
 
 pub loop-i-preserved : goal.loop-i-preserved
-loop-i-preserved c = let frame = c.args.frame.now in
-    let into = c.args.into.now in
+loop-i-preserved c =
     let l = c.loop-i in
-    let turn = sets_words l.into (length into) l.i 7 frame (omega arith) in
-    (omega arith, rw (length-set l.into l.i c.word_at.result) l.invariant.1, rw c.word_at.ensures (sym turn ∙ l.invariant.2))
-
-pub shape_of-into : goal.shape_of-into
-shape_of-into c = c.loop-i.invariant.1
+    rw c.word_at.ensures (sym (sets_words l.into (length c.args.into.now) l.i 7 c.args.frame.now (omega arith)) ∙ l.invariant)
 
 pub returns : goal.returns
 unfolding words_at
@@ -28,4 +23,4 @@ returns c = let a = c.args in
     let l = c.loop-i in
     let none_left = words_none n l.i (7 + 2 * l.i) a.frame.now (omega arith) in
     let whole = sets_whole a.into.now (words_at n a.frame.now 7) (length_words n a.frame.now 7) in
-    sym (ap (sets l.into l.i) none_left) ∙ l.invariant.2 ∙ whole
+    sym (ap (sets l.into l.i) none_left) ∙ l.invariant ∙ whole

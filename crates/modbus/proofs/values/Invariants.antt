@@ -1,14 +1,9 @@
 -- The words that are left to read, stored behind those that were, are all of them; they fill the array, so nothing of it is left.
 use lib.ListN.{length}
-use Rattle.std.proofs.Common.{◌≡◌, ◌+◌, ◌-◌, ◌*◌, ◌≤◌}
+use Rattle.std.proofs.Common.{◌≡◌, ◌+◌, ◌-◌, ◌*◌}
 use lib.Seq.{sets}
 use Rattle.modbus.specs.Frame.{words_at}
 use Rattle.modbus.proofs.values.Given as goal
 
 abbrev pub invariant-loop-i : goal.invariant-loop-i
-invariant-loop-i l = (l.i ≤ length l.initial.into) ×
-    (length l.into ≡ length l.initial.into) ×
-    (sets l.into l.i (words_at (length l.initial.into - l.i) l.frame (7 + 2 * l.i)) ≡ sets l.initial.into 0 (words_at (length l.initial.into) l.frame 7))
-
-abbrev pub decreases-loop-i : goal.decreases-loop-i
-decreases-loop-i l = length l.initial.into - l.i
+invariant-loop-i l = sets l.into l.i (words_at (length l.initial.into - l.i) l.frame (7 + 2 * l.i)) ≡ sets l.initial.into 0 (words_at (length l.initial.into) l.frame 7)

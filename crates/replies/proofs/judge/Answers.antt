@@ -1,8 +1,7 @@
 -- The tests are the definition's own, in its order.
 use Rattle.std.proofs.Common.{Ok, Err, sym, ap, ◌∙◌}
 use Rattle.std.proofs.lemmas.Result.{err_from_is_err_and}
-use Rattle.directory.specs.Views.{view_of}
-use Rattle.modbus.proofs.Judged.{legal_read}
+use Rattle.modbus.proofs.Judged.{read_when}
 use Rattle.replies.specs.Judged.{judged_in}
 use Rattle.replies.proofs.Judged.{passing, reply_passing, heard_judged}
 use Rattle.replies.proofs.judge.Goals as goal
@@ -21,7 +20,7 @@ returns-in_default c =
 
 pub replied-requires : goal.replied-requires
 replied-requires c =
-    (legal_read (view_of c.args.table.now c.args.reach) c.requires.good (sym c.read_in.ensures ∙ c.in-Ok.is)).long
+    (((read_when c.args.directory.now c.args.request.now).items c.in-Ok.asked.first c.in-Ok.asked.count).0 (sym c.read_in.ensures ∙ c.in-Ok.is)).0
 
 pub returns-in_err-replied : goal.returns-in_err-replied
 returns-in_err-replied c =

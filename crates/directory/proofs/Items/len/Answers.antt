@@ -1,0 +1,8 @@
+-- Four numbers are an item.
+use Rattle.std.proofs.Common.{sym, ap, ◌∙◌, length, List}
+use Rattle.directory.specs.declared.Item.{Item}
+use Rattle.directory.proofs.Flat.{items_length}
+use Rattle.directory.proofs.Items.len.Goals as goal
+
+pub returns : goal.returns
+returns c = sym (items_length c.self.inside.numbers.now) ∙ ap (λ (its : List Item). length its) c.self.view_is
