@@ -7,6 +7,9 @@ use Prim.Native.Nat.{ℕ, zero, suc, ◌+◌, ◌*◌, ◌/◌, ◌%◌, ◌^◌
 use native.Mathlib.Omega.{arith}
 use native.Mathlib.Nat.{zero-add, suc-add, mod-lt}
 use lib.Bits.{bit_xor, xor_comm, xor_zero_r, xor_mod, xor_shifted, shifted_half, shifted_even}
+use lib.Arith.{bin_ind}
+use lib.Count.{ones, ones_step, ones_cat, ones-ones}
+use lib.Pow.{pow_pos}
 use lib.Dec.{eqb, lit<}
 use lib.ListN.{length, get_or, take, drop, take-append-drop, drop_of_length-le}
 use lib.Seq.{drop-cons, take-add}
@@ -18,7 +21,7 @@ use Rattle.std.proofs.Common.{append-nil}
 use Rattle.crc.specs.Crc.{shift, shifts, crc_from, crc_of}
 use Rattle.eight.specs.AtOnce.{Linear, run, folded, spread, narrowed, parity, mended, settled}
 use Rattle.eight.specs.AtOnce.Linear.{it, shr, shl, low, xor, on}
-use Rattle.eight.proofs.Linear.{xor_assoc, xor_swap, run_xor, alike, by_bits}
+use Rattle.eight.proofs.Linear.{xor_half, xor_odd, xor_assoc, xor_swap, run_xor, alike, by_bits}
 
 -- a right shift and n of them, as shifts and exclusive-ors: 0xA001 is the bits 0, 13 and 15
 once : Linear
@@ -136,6 +139,47 @@ one_more eights next a b ea eb =
     ∙ ap (λ (r : ℕ). crc_from r next) ea
     ∙ sym (from_append 0xFFFF (concat eights) next)
     ∙ rw (concat-append, append-nil) refl
+
+-- bits add without a carry
+bit_add : (d e : ℕ) → d < 2 → e < 2 → bit_xor d e ≡ (d + e) % 2
+bit_add zero zero hd he = refl
+bit_add zero (suc zero) hd he = refl
+bit_add (suc zero) zero hd he = refl
+bit_add (suc zero) (suc zero) hd he = refl
+bit_add zero (suc (suc e)) hd he = absurd (omega arith)
+bit_add (suc zero) (suc (suc e)) hd he = absurd (omega arith)
+bit_add (suc (suc d)) e hd he = absurd (omega arith)
+
+none_set : ones 0 ≡ 0
+none_set = ones-ones 0
+
+one_set : (n : ℕ) → ones (2 ^ n) ≡ 1
+one_set n =
+    let e : 1 * 2 ^ n + 0 ≡ 2 ^ n = omega arith in
+    ap ones (sym e) ∙ ones_cat n 1 0 (pow_pos n) ∙ ap₂ (λ (a b : ℕ). a + b) (ones-ones 1) none_set
+
+-- whether an odd number of bits is set keeps to exclusive-or
+ones_xor : (a b : ℕ) → ones (bit_xor a b) % 2 ≡ bit_xor (ones a % 2) (ones b % 2)
+ones_xor = bin_ind (λ (a : ℕ). (b : ℕ) → ones (bit_xor a b) % 2 ≡ bit_xor (ones a % 2) (ones b % 2)) base step
+  where
+    base : (b : ℕ) → ones b % 2 ≡ bit_xor (ones 0 % 2) (ones b % 2)
+    base b = rw none_set refl
+
+    step : (a : ℕ) → ((b : ℕ) → ones (bit_xor (a / 2) b) % 2 ≡ bit_xor (ones (a / 2) % 2) (ones b % 2)) → (b : ℕ) → ones (bit_xor a b) % 2 ≡ bit_xor (ones a % 2) (ones b % 2)
+    step a ih b =
+        let add : (m n : ℕ) → bit_xor (m % 2) (n % 2) ≡ (m % 2 + n % 2) % 2 = λ m n. bit_add (m % 2) (n % 2) (omega arith) (omega arith) in
+        let low : bit_xor a b % 2 ≡ (a % 2 + b % 2) % 2 = xor_odd a b ∙ add a b in
+        let high : ones (bit_xor a b / 2) % 2 ≡ (ones (a / 2) % 2 + ones (b / 2) % 2) % 2 = ap (λ (x : ℕ). ones x % 2) (xor_half a b) ∙ ih (b / 2) ∙ add (ones (a / 2)) (ones (b / 2)) in
+        omega (arith, low, high, ones_step (bit_xor a b), ones_step a, ones_step b, add (ones a) (ones b))
+
+-- `count_ones` tells the parity: so it does at each power of two, which has one bit set
+pub parity_is : (x : ℕ) → x < 2 ^ 64 → ones x % 2 ≡ run parity x
+unfolding alike
+parity_is = by_bits (λ x. ones x % 2) (run parity) ones_xor (run_xor parity) 64 (powers 64 ∙ refl)
+  where
+    powers : (n : ℕ) → alike (λ x. ones x % 2) (run parity) n ≡ alike (λ x. 1) (run parity) n
+    powers zero = refl
+    powers (suc n) = rw (one_set n, powers n) refl
 
 -- the CRC in two parts: the remainder, with an even parity, and what an odd parity adds
 even : Linear

@@ -22,10 +22,10 @@ bits_assoc (suc zero) (suc zero) (suc (suc z)) hx hy hz = absurd (omega arith)
 bits_assoc (suc zero) (suc (suc y)) z hx hy hz = absurd (omega arith)
 bits_assoc (suc (suc x)) y z hx hy hz = absurd (omega arith)
 
-xor_half : (a b : ℕ) → bit_xor a b / 2 ≡ bit_xor (a / 2) (b / 2)
+pub xor_half : (a b : ℕ) → bit_xor a b / 2 ≡ bit_xor (a / 2) (b / 2)
 xor_half a b = xor_shr a b 1
 
-xor_odd : (a b : ℕ) → bit_xor a b % 2 ≡ bit_xor (a % 2) (b % 2)
+pub xor_odd : (a b : ℕ) → bit_xor a b % 2 ≡ bit_xor (a % 2) (b % 2)
 xor_odd a b = xor_mod a b 1
 
 pub xor_assoc : (a b c : ℕ) → bit_xor (bit_xor a b) c ≡ bit_xor a (bit_xor b c)

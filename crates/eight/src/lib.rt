@@ -107,10 +107,5 @@ fn narrowed(w: u64) -> u64
 fn parity(x: u64) -> u64
     ensures { result ≡ run parity x }
 {
-    let a = x ^ (x >> 32);
-    let b = a ^ (a >> 16);
-    let c = b ^ (b >> 8);
-    let d = c ^ (c >> 4);
-    let e = d ^ (d >> 2);
-    (e ^ (e >> 1)) % 2
+    u64::from(x.count_ones() % 2)
 }
