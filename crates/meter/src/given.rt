@@ -24,6 +24,7 @@ impl Given {
     pub const NO_SECOND: u8 = 0;
 
     // What a new meter of it is answered with: the first that applies.
+    #[tactic(auto, unfolding(crate::specs::Meters::new_of))]
     pub(crate) fn judged(self) -> Result<(), Refusal>
         ensures { result ≡ (new_of self).answer }
     {

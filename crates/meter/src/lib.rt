@@ -69,6 +69,7 @@ impl Meter {
     }
 
     // A new meter. If it is refused, its record is out of limits, so that every later call refuses it too.
+    #[tactic(auto, using(crate::proofs::Accepts::new_blank))]
     pub fn of(given: Given) -> Answered
         ensures { result ≡ new_of given }
     {
@@ -92,6 +93,7 @@ impl Meter {
     }
 
     // Whether the whole record is within its limits.
+    #[tactic(auto, unfolding(crate::specs::Meters::meter_ok))]
     pub fn within(self) -> bool
         ensures { result ≡ meter_ok self }
     {
@@ -105,6 +107,7 @@ impl Meter {
 
     // The meter after a sample of one second. A refused sample leaves it as it was.
     // Stays with a return for each refusal: a sample took 602 instructions so, and by a Result with `?`, in three forms, 686 to 731.
+    #[tactic(auto, unfolding(crate::specs::After::after_of))]
     pub fn after(self, sample: Sample) -> Answered
         ensures { result ≡ after_of self sample }
     {

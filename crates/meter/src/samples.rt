@@ -33,6 +33,7 @@ impl Powers {
     }
 
     // The 3-phase power that is shown and counted: the sum of all three phases.
+    #[tactic(auto, unfolding(crate::specs::Samples::in_force))]
     pub fn in_force(self) -> Signed
         requires { Held self }
         ensures { result ≡ in_force self }
@@ -42,6 +43,7 @@ impl Powers {
 
     // Whether each phase and the sum of all three are within the limit at a ratio of t tenths. Phases beyond it are not added, as
     // their sum may not fit 64 bits.
+    #[tactic(auto, using(crate::proofs::Parts::phases_held))]
     fn within(self, t: u32) -> bool
         ensures { result ≡ powers_ok t self }
     {
@@ -106,6 +108,7 @@ impl Sample {
     }
 
     // Whether each figure is within its limits at a ratio of t tenths.
+    #[tactic(auto, unfolding(crate::specs::Samples::sample_ok))]
     pub(crate) fn within(self, t: u32) -> bool
         ensures { result ≡ sample_ok t self }
     {

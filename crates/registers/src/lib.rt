@@ -16,7 +16,7 @@ use meter::sound::Sound;
 use signed::Signed;
 
 // The value that is sent for a quantity. An item of one word sends the lower 16 bits of it.
-// Kinds stay numbers, as the table of the directory holds them: a quantity is 64 × kind + which.
+// Kinds stay numbers: `shown` promises a value for every number of the directory's flat table, in which a quantity is 64 × kind + which.
 pub fn shown(sound: Sound, quantity: u16) -> u32
     ensures { result ≡ shown_of sound.meter quantity }
 {
@@ -53,7 +53,7 @@ fn value_at<const N: usize>(values: [u32; N], which: u16) -> u32
 }
 
 // Registers of P, Q and S, of the average and of its peak hold a magnitude in the unit that the ratio gives. One more register of
-// S is in whole VA at any ratio.
+// S is in whole VA at any ratio. The casts stay: a sound meter's values fit, and `try_from` would add a case that never comes.
 fn power(sound: Sound, which: u16) -> u32
     ensures { result ≡ get_or (power_values sound.meter) which 0 }
 {
@@ -80,6 +80,7 @@ fn signed_power(sound: Sound, which: u16) -> u32
 }
 
 // A signed power of the latest sample: 3-phase P or Q, or that of one phase.
+#[tactic(auto, unfolding(crate::specs::Shown::power_at))]
 fn power_at(sound: Sound, which: u16) -> Signed
     ensures { result ≡ power_at sound.meter which }
 {
@@ -88,16 +89,13 @@ fn power_at(sound: Sound, which: u16) -> Signed
     match which {
         P => p.in_force(),
         Q => q.in_force(),
-        P1 => Signed::of(p.l1),
-        P2 => Signed::of(p.l2),
-        P3 => Signed::of(p.l3),
-        Q1 => Signed::of(q.l1),
-        Q2 => Signed::of(q.l2),
-        Q3 => Signed::of(q.l3),
-        _ => Signed {
-            negative: false,
-            magnitude: 0,
-        },
+        P1 => Signed::from(p.l1),
+        P2 => Signed::from(p.l2),
+        P3 => Signed::from(p.l3),
+        Q1 => Signed::from(q.l1),
+        Q2 => Signed::from(q.l2),
+        Q3 => Signed::from(q.l3),
+        _ => Signed::from(0),
     }
 }
 
@@ -108,6 +106,7 @@ fn sign_word(power: Signed) -> u32
     u32::from(power.negative)
 }
 
+// Stays a match: the record names each energy, and holds no list of them.
 fn energy_at(m: Meter, which: u16) -> WattHours
     ensures { result ≡ (energy_at which m).wh }
 {
@@ -121,6 +120,7 @@ fn energy_at(m: Meter, which: u16) -> WattHours
 }
 
 // Hundredths are the thousandths cut toward zero: the magnitude is divided.
+#[tactic(auto, unfolding(crate::specs::Shown::factor_values))]
 fn factor(sound: Sound, which: u16) -> u32
     ensures { result ≡ get_or (factor_values (factor_of sound.meter.latest.factor)) which 0 }
 {
@@ -135,6 +135,7 @@ fn factor(sound: Sound, which: u16) -> u32
     }
 }
 
+#[tactic(auto, unfolding(crate::specs::Shown::plain_values))]
 fn plain(m: Meter, which: u16) -> u32
     ensures { result ≡ get_or (plain_values m) which 0 }
 {
