@@ -1,10 +1,10 @@
 // Who asks: a frame to the second address is a tenant's, and any other the owner's (paper 02, request 3).
-ghost use Rattle.std.specs.Prelude.{◌≡◌, not, cond};
-ghost use Rattle.own.specs.Own.{own_reach, tenant_reach};
-ghost use Rattle.board.specs.Board.{to_second, address_for};
+ghost use Rattle.std.specs.Prelude.{◌≡◌, not};
+ghost use Rattle.own.specs.Own.{own};
+ghost use Rattle.board.specs.Board.{to_second, address_for, view_for};
 ghost use Rattle.board.specs.Askers.{is_tenant};
 
-use directory::Reach;
+use directory::Directory;
 use meter::given::Given;
 
 #[derive(Clone, Copy)]
@@ -40,13 +40,13 @@ impl Asker {
         matches!(self, Asker::Owner)
     }
 
-    // How much of the table it may read.
-    pub(crate) fn reach(self) -> Reach
-        ensures { result ≡ cond (is_tenant self) tenant_reach own_reach }
+    // What its reads are judged by.
+    pub(crate) fn directory(self) -> Directory<'static>
+        ensures { result ≡ view_for own (is_tenant self) }
     {
         match self {
-            Asker::Owner => own::reach(),
-            Asker::Tenant => own::tenant_reach(),
+            Asker::Owner => own::directory(),
+            Asker::Tenant => own::tenant_directory(),
         }
     }
 }
