@@ -15,6 +15,7 @@ use Rattle.directory.specs.declared.Item.{Item}
 use Rattle.directory.specs.Item.{none}
 use Rattle.directory.specs.Order.{every, shaped, meant}
 use Rattle.directory.specs.Run.{is_l, run_items, words_of}
+use Rattle.directory.specs.Views.{Asked}
 use Rattle.directory.proofs.Order.{Narrow, every_at}
 use Rattle.directory.proofs.Shapes.{shape}
 use Rattle.reading.specs.declared.Answer.TheVariants.{Refused}
@@ -51,13 +52,13 @@ pub record Known (its : List Item) (reply : List ℕ) (index at : ℕ) (it : Ite
   pub narrow : Narrow it
   pub room : at + 2 * it.words ≤ length reply
 
-pub known : (its : List Item) (reply : List ℕ) → T (every shaped its) × T (every meant its) → 3 + 2 * words_of its ≤ length reply → (index at : ℕ) (it : Item) → index < length its → at ≡ place_of its index → it ≡ get_or its index none → Known its reply index at it
+pub known : (its : List Item) (reply : List ℕ) → Asked its → 3 + 2 * words_of its ≤ length reply → (index at : ℕ) (it : Item) → index < length its → at ≡ place_of its index → it ≡ get_or its index none → Known its reply index at it
 known its reply good room index at it inside here is =
     record {
       is = is;
-      shapely = rw is (every_at shaped its good.0 index inside);
-      means = rw is (every_at meant its good.1 index inside);
-      narrow = rw is (narrow_at its good.0 index inside);
+      shapely = rw is (every_at shaped its good.shapely index inside);
+      means = rw is (every_at meant its good.means index inside);
+      narrow = rw is (narrow_at its good.shapely index inside);
       room = omega (arith, here, ap (λ (it : Item). it.words) is, words_within its index inside, room);
     }
 

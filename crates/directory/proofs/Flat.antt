@@ -1,11 +1,11 @@
 -- A flat table as items: dropping four numbers drops an item, so the item of index i stands at 4 × i, and a part of the table holds a run.
 use mathlib.Core.Path.{◌≡◌, refl, sym, ap, ◌∙◌}
 use mathlib.Core.List.{List, [], ◌∷◌}
-use Prim.Native.Nat.{ℕ, zero, suc, ◌+◌, ◌-◌, ◌*◌, ◌/◌, ◌≤◌, ◌<◌}
+use Prim.Native.Nat.{ℕ, zero, suc, ◌+◌, ◌*◌, ◌/◌, ◌≤◌, ◌<◌}
 use native.Mathlib.Nat.{add-zero}
 use native.Mathlib.Omega.{arith}
 use lib.ListN.{length, get_or, take, drop, length-drop}
-use lib.Seq.{drop-cons, get_or-drop, take_all}
+use lib.Seq.{drop-cons, get_or-drop}
 use Rattle.directory.specs.declared.Item.{Item}
 use Rattle.directory.specs.Item.{item, items, none}
 
@@ -69,25 +69,3 @@ items_length (a ∷ f ∷ w ∷ []) = refl
 items_length (a ∷ f ∷ []) = refl
 items_length (a ∷ []) = refl
 items_length [] = refl
-
--- fewer than four make none; of more the first stands before the others
-pub items_short : (l : List ℕ) → length l < 4 → items l ≡ []
-unfolding items
-items_short (a ∷ f ∷ w ∷ q ∷ l) h = absurd (omega (arith, h))
-items_short (a ∷ f ∷ w ∷ []) h = refl
-items_short (a ∷ f ∷ []) h = refl
-items_short (a ∷ []) h = refl
-items_short [] h = refl
-
-pub items_first : (l : List ℕ) → 4 ≤ length l → items l ≡ get_or (items l) 0 none ∷ items (drop 4 l)
-unfolding items
-items_first (a ∷ f ∷ w ∷ q ∷ l) h = refl
-items_first (a ∷ f ∷ w ∷ []) h = absurd (omega (arith, h))
-items_first (a ∷ f ∷ []) h = absurd (omega (arith, h))
-items_first (a ∷ []) h = absurd (omega (arith, h))
-items_first [] h = absurd (omega (arith, h))
-
--- and what is behind four numbers is all that is left
-pub items_behind : (l : List ℕ) → 4 ≤ length l → items l ≡ get_or (items l) 0 none ∷ items (take (length l - 4) (drop 4 l))
-items_behind l h =
-    items_first l h ∙ ap (λ (rest : List ℕ). get_or (items l) 0 none ∷ items rest) (sym (take_all (length l - 4) (drop 4 l) (omega (arith, h, length-drop 4 l))))

@@ -68,7 +68,7 @@ every_take test its zero h = tt
 every_take test [] (suc n) h = tt
 every_take test (it ∷ its) (suc n) h = both (test it) _ (left (test it) _ h) (every_take test its n (right (test it) _ h))
 
-pub every_drop : (test : Item → Bool) (its : List Item) (n : ℕ) → T (every test its) → T (every test (drop n its))
+every_drop : (test : Item → Bool) (its : List Item) (n : ℕ) → T (every test its) → T (every test (drop n its))
 unfolding every
 every_drop test its zero h = h
 every_drop test [] (suc n) h = tt

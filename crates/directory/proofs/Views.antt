@@ -72,9 +72,3 @@ module _ (t : List ℕ) (seen most : ℕ) (lent : Lent t seen most) (first count
 
   pub run_narrow : T (every narrow (items (take (4 * count) (drop (4 * first) t))))
   run_narrow = rw run_part (every_run narrow (view_of t seen most).seen first count (ruled_every (view_of t seen most).seen (passes_ruled (view_of t seen most) lent.good)))
-
--- ---- some items, taken from the front
-
-pub asked_rest : (it : Item) (its : List Item) → Asked (it ∷ its) → Asked its
-unfolding every
-asked_rest it its h = record { shapely = right (shaped it) _ h.shapely; means = right (meant it) _ h.means }

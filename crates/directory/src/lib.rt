@@ -5,11 +5,11 @@
 
 pub mod quantity;
 
-ghost use Rattle.std.specs.Prelude.{◌≡◌, ◌+◌, ◌*◌, ◌≤◌, ◌<◌, length, get_or};
-ghost use Rattle.std.specs.Iterator.{YieldsFirst, item_count};
+ghost use Rattle.std.specs.Prelude.{◌≡◌, ◌+◌, ◌*◌, ◌≤◌, ◌<◌, true, length, get_or};
 ghost use Rattle.directory.specs.Item.{items, none, is_b};
+ghost use Rattle.directory.specs.Order.{shaped, meant};
 ghost use Rattle.directory.specs.Run.{find_in, run_in, run_items};
-ghost use Rattle.directory.specs.Views.{view_of, Lent};
+ghost use Rattle.directory.specs.Views.{view_of, Lent, Asked};
 
 use refusal::ErrorCode;
 use std::marker::Model;
@@ -87,16 +87,17 @@ impl<'a> Directory<'a> {
         self.most
     }
 
-    // The item with index i.
-    pub fn item(&self, i: usize) -> Item
-        requires { i < length self.now.seen }
-        ensures { result ≡ get_or self.now.seen i none }
+    // The item with an index.
+    pub fn item(&self, index: usize) -> Item
+        requires { index < length self.now.seen }
+        ensures { result ≡ get_or self.now.seen index none }
     {
-        item_at(self.numbers, i)
+        item_at(self.numbers, index)
     }
 
     // The run of items for `words` words from the address `start`, or what is wrong with it. Only the first of the run is searched for:
     // the table ascends, so the item that starts where another ends can only be the next one.
+    // Stays a `while` over the words that are due: a `for` over the items would ask twice whether any are, in it and behind it.
     pub fn run(&self, start: u16, words: u16) -> Result<Span, ErrorCode>
         ensures { result ≡ run_in self.now.seen start words }
     {
@@ -126,6 +127,7 @@ impl<'a> Directory<'a> {
     }
 
     // The index of the item that starts at an address. The table ascends, so a search by halves finds it.
+    // Stays a search by hand: the library's take a slice of keys, and the flat table of numbers that the paper names has none.
     fn find(&self, address: u16) -> Option<usize>
         ensures { result ≡ find_in self.now.seen address 0 }
     {
@@ -160,7 +162,7 @@ impl<'a> Directory<'a> {
     }
 }
 
-// Some items of a directory, one behind the other; an iterator over them.
+// Some items of a directory, one behind the other. In contracts they are their list.
 #[derive(Drop)]
 pub struct Items<'a> {
     numbers: &'a [u16],
@@ -182,34 +184,19 @@ impl<'a> Model for Items<'a> {
 impl<'a> Items<'a> {
     // How many there are.
     pub fn len(&self) -> usize
-        ensures { result ≡ length self.now }
+        ensures value { result ≡ length self.now }
+        ensures ruled { Asked self.now }
     {
         self.numbers.len() / NUMBERS_PER_ITEM
     }
 
-    // The item with index i.
-    pub fn item(&self, i: usize) -> Item
-        requires { i < length self.now }
-        ensures { result ≡ get_or self.now i none }
+    // The item at a place among them.
+    pub fn at(&self, place: usize) -> Item
+        requires { place < length self.now }
+        ensures value { result ≡ get_or self.now place none }
+        ensures ruled { (shaped result ≡ true) × (meant result ≡ true) }
     {
-        item_at(self.numbers, i)
-    }
-}
-
-impl<'a> Iterator for Items<'a> {
-    type Item = Item;
-
-    ghost next_gives = { YieldsFirst (λ its. its) };
-
-    ghost remaining = { item_count (λ its. its) };
-
-    fn next(&mut self) -> Option<Item> {
-        if self.numbers.len() < NUMBERS_PER_ITEM {
-            return None;
-        }
-        let it = item_at(self.numbers, 0);
-        self.numbers = &self.numbers[NUMBERS_PER_ITEM..];
-        Some(it)
+        item_at(self.numbers, place)
     }
 }
 

@@ -1,19 +1,17 @@
 -- A read is judged by its length, its word number and the run: which of them decides.
-use mathlib.Core.Path.{◌≡◌, refl, sym, ap, ◌∙◌}
+use mathlib.Core.Path.{◌≡◌, refl, sym, ◌∙◌}
 use mathlib.Core.Logic.{◌↔◌, ◌⊎◌, inl, inr}
 use mathlib.Core.Bool.{Bool, true, false, ◌||◌, not, cond, false≢true}
 use mathlib.Core.List.{List}
 use Prim.Native.Nat.{ℕ, ◌+◌, ◌*◌, ◌≤◌, ◌<◌}
 use native.Mathlib.Omega.{arith}
 use lib.Dec.{T, ltb, eqb}
-use lib.ListN.{length, take, drop}
+use lib.ListN.{length}
 use borrow.Author.Tests.{ltb-false, eqb-true, eqb-false, eq-eqb}
 use Rattle.std.specs.Prelude.{Result, Ok, Err}
 use Rattle.refusal.specs.declared.ErrorCode.{ErrorCode}
 use Rattle.refusal.specs.declared.ErrorCode.TheVariants.{Function, Address, Data}
 use Rattle.directory.specs.declared.Span.{Span}
-use Rattle.directory.specs.Item.{items}
-use Rattle.directory.specs.Order.{every, narrow}
 use Rattle.directory.specs.Run.{run_in, run_items, words_of, span}
 use Rattle.directory.specs.Views.{View, passes}
 use Rattle.directory.proofs.Errors.{no_run, data_sound, run_sound}

@@ -19,19 +19,19 @@ use Rattle.own.specs.OwnRules.{OwnPasses, count_of, TenantView, places_of, Three
 use Rattle.own.specs.Kinds.{first_of_kind, KindsInOrder}
 
 -- THE TESTS of paper 01's own
-passed : T (passes own)
+pub own_good : T (passes own)
 unfolding ascends every directory
-passed = tt
+own_good = tt
 
 pub own_ruled : T (ruled directory)
-own_ruled = passes_ruled own passed
+own_ruled = passes_ruled own own_good
 
 directory_count : length directory ≡ 148
 unfolding directory
 directory_count = refl
 
 pub own_passes : OwnPasses
-own_passes = record { count = directory_count; most = refl; passed = passed }
+own_passes = record { count = directory_count; most = refl; passed = own_good }
 
 -- the constant table, seen whole
 pub own_view : view_of (flat directory) 148 120 ≡ own
@@ -40,7 +40,7 @@ own_view = ap (λ (its : List Item). record { seen = its; most = own.most }) (ap
 pub own_lent : Lent (flat directory) 148 120
 own_lent = record {
   holds = omega (arith, items_length (flat directory), ap length (items_flat directory), directory_count);
-  good = subst (λ (v : View). T (passes v)) (sym own_view) passed;
+  good = subst (λ (v : View). T (passes v)) (sym own_view) own_good;
 }
 
 -- and as far as a tenant sees it
@@ -54,7 +54,7 @@ tenant_seen = ap (λ (its : List Item). record { seen = its; most = own.most }) 
 pub tenant_lent : Lent (flat directory) 83 120
 tenant_lent = record {
   holds = omega (arith, items_length (flat directory), ap length (items_flat directory), directory_count);
-  good = subst (λ (v : View). T (passes v)) (sym tenant_seen) (tenant_passes own passed);
+  good = subst (λ (v : View). T (passes v)) (sym tenant_seen) (tenant_passes own own_good);
 }
 
 pub tenant_view : TenantView

@@ -21,7 +21,7 @@ use refusal::{ErrorCode, Refusal};
 use signed::Signed;
 
 // A reading. The order is that of paper 01's list of readings.
-#[derive(Clone, Copy)]
+#[derive(Clone, Copy, Debug, PartialEq, Eq)]
 pub enum Quantity {
     // In mV.
     Voltage(u32),
@@ -62,7 +62,7 @@ pub enum Quantity {
 }
 
 impl Quantity {
-    // The number of its kind: its place in paper 01's list, from 1.
+    // The number of its kind: its place in paper 01's list, from 1. Stays a number: it is what a cell of the row of kinds gets.
     pub fn kind(self) -> u8
         ensures { result ≡ kind_of self }
     {
@@ -91,28 +91,28 @@ impl Quantity {
         ensures { result ≡ cell_of self }
     {
         match self {
-            Quantity::Voltage(mv) => mv as u64,
-            Quantity::Current(ma) => ma as u64,
+            Quantity::Voltage(mv) => u64::from(mv),
+            Quantity::Current(ma) => u64::from(ma),
             Quantity::Power(hundredths) => hundredths,
             Quantity::SignedPower(s) => words::twos_quad(s.negative, s.magnitude),
-            Quantity::Energy { count, .. } => count.0 as u64,
-            Quantity::Low(n) => n as u64,
-            Quantity::High(n) => n as u64,
-            Quantity::Wrap(n) => n as u64,
+            Quantity::Energy { count, .. } => u64::from(count.0),
+            Quantity::Low(n) => u64::from(n),
+            Quantity::High(n) => u64::from(n),
+            Quantity::Wrap(n) => u64::from(n),
             Quantity::Factor(s) => words::twos_quad(s.negative, s.magnitude),
-            Quantity::Sign(n) => n as u64,
-            Quantity::Sector(n) => n as u64,
-            Quantity::Frequency(n) => n as u64,
-            Quantity::Kta(n) => n as u64,
-            Quantity::Ktv(n) => n as u64,
-            Quantity::Sequence(n) => n as u64,
-            Quantity::Plain(n) => n as u64,
+            Quantity::Sign(n) => u64::from(n),
+            Quantity::Sector(n) => u64::from(n),
+            Quantity::Frequency(n) => u64::from(n),
+            Quantity::Kta(n) => u64::from(n),
+            Quantity::Ktv(n) => u64::from(n),
+            Quantity::Sequence(n) => u64::from(n),
+            Quantity::Plain(n) => u64::from(n),
         }
     }
 }
 
 // What a collector makes of a reply: a reading, the meter's error code, or a refusal.
-#[derive(Clone, Copy)]
+#[derive(Clone, Copy, Debug, PartialEq, Eq)]
 pub enum Answer {
     Reading(Quantity),
     Error(ErrorCode),
@@ -134,13 +134,14 @@ pub fn of(t: u32, it: Item, value: u32) -> Answer
     if it.is_b() & (255 < value) {
         return Answer::Refused(Refusal::ValueImpossible);
     }
+    // Stays a number taken apart: the table of numbers that the paper names holds kind and `which` as one, and `registers::shown` takes it.
     let which = it.quantity % 64;
     let kind = it.quantity - which;
     match kind {
         VOLTAGE => Answer::Reading(Quantity::Voltage(value)),
         CURRENT => Answer::Reading(Quantity::Current(value)),
-        POWER => Answer::Reading(Quantity::Power(value as u64 * unit(t, which))),
-        SIGNED_POWER => Answer::Reading(Quantity::SignedPower(signed_long(value))),
+        POWER => Answer::Reading(Quantity::Power(u64::from(value) * unit(t, which))),
+        SIGNED_POWER => Answer::Reading(Quantity::SignedPower(signed_in(LONG, value))),
         ENERGY_COUNT => unless(Count::TOP < value, energy(t, value)),
         LOW => unless(WattHours::LOW_TOP < value, Quantity::Low(value)),
         HIGH => unless(WattHours::HIGH_TOP < value, Quantity::High(value)),
@@ -200,10 +201,10 @@ fn factor(long: bool, value: u32) -> Answer
     ensures { result ≡ cond (cond long (ltb 1000 (magnitude_in 2 value)) (ltb 100 (magnitude_in 1 value))) (Refused ValueImpossible) (Reading (Factor (cond long (signed_in 2 value) (times 10 (signed_in 1 value))))) }
 {
     if long {
-        let s = signed_long(value);
+        let s = signed_in(LONG, value);
         return unless(TOP_IN_THOUSANDTHS < s.magnitude, Quantity::Factor(s));
     }
-    let s = signed_word(value as u16);
+    let s = signed_in(WORD, value);
     let tenfold = Signed {
         negative: s.negative,
         magnitude: s.magnitude * 10,
@@ -211,37 +212,32 @@ fn factor(long: bool, value: u32) -> Answer
     unless(TOP_IN_HUNDREDTHS < s.magnitude, Quantity::Factor(tenfold))
 }
 
+// The twins differ in their range and in their case, and a range is no const parameter; what they share is `unless`.
 fn kta(value: u16) -> Answer
     ensures { result ≡ cond (not (kta_ok value)) (Refused ValueImpossible) (Reading (Kta value)) }
 {
-    let possible = (Ratios::KTA_LEAST <= value) & (value <= Ratios::KTA_TOP);
+    let possible = (Ratios::KTA_LEAST..=Ratios::KTA_TOP).contains(&value);
     unless(!possible, Quantity::Kta(value))
 }
 
 fn ktv(value: u16) -> Answer
     ensures { result ≡ cond (not (ktv_ok value)) (Refused ValueImpossible) (Reading (Ktv value)) }
 {
-    let possible = (Ratios::KTV_LEAST <= value) & (value <= Ratios::KTV_TOP);
+    let possible = (Ratios::KTV_LEAST..=Ratios::KTV_TOP).contains(&value);
     unless(!possible, Quantity::Ktv(value))
 }
 
-fn signed_long(value: u32) -> Signed
-    ensures { result ≡ signed_in 2 value }
-{
-    signed_in(4_294_967_296, value as u64)
-}
+// How many values a word has, and a long.
+const WORD: u64 = 65_536;
 
-fn signed_word(value: u16) -> Signed
-    ensures { result ≡ signed_in 1 value }
-{
-    signed_in(65_536, value as u64)
-}
+const LONG: u64 = 4_294_967_296;
 
 // Two's complement. `full` is how many values the words can have; each of the upper half of them stands for value - full.
-fn signed_in(full: u64, value: u64) -> Signed
+fn signed_in(full: u64, value: u32) -> Signed
     requires { value ≤ full }
     ensures { result ≡ record { negative = leb (full / 2) value; magnitude = cond (leb (full / 2) value) (full - value) value } }
 {
+    let value = u64::from(value);
     if full / 2 <= value {
         return Signed {
             negative: true,

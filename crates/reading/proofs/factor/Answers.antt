@@ -25,14 +25,11 @@ pub returns-then-long : goal.returns-then-long
 returns-then-long c =
     rw c.if-long.true
     (c.unless.ensures
-    ∙ ap (λ (s : Signed). cond (ltb 1000 s.magnitude) (Refused ValueImpossible) (Reading (Factor s))) c.signed_long-s.ensures)
-
-pub overflow_cast-value : goal.overflow_cast-value
-overflow_cast-value c = omega (arith, c.requires c.if-long.false)
+    ∙ ap (λ (s : Signed). cond (ltb 1000 s.magnitude) (Refused ValueImpossible) (Reading (Factor s))) c.signed_in-s.ensures)
 
 pub overflow_mul-tenfold : goal.overflow_mul-tenfold
 overflow_mul-tenfold c =
-    omega (arith, ap (λ (c : Signed). c.magnitude) c.signed_word-s.ensures, magnitude_most c.args.value (c.requires c.if-long.false))
+    omega (arith, ap (λ (c : Signed). c.magnitude) c.signed_in-s-2.ensures, magnitude_most c.args.value (c.requires c.if-long.false))
 
 pub returns : goal.returns
-returns c = rw c.if-long.false (c.unless-2.ensures ∙ ap (read 100 10) c.signed_word-s.ensures)
+returns c = rw c.if-long.false (c.unless-2.ensures ∙ ap (read 100 10) c.signed_in-s-2.ensures)

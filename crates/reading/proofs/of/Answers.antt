@@ -47,14 +47,15 @@ returns-then-is_b-value c = sym (upper_refused c.args.t c.args.it c.args.value (
 pub overflow_mul-result : goal.overflow_mul-result
 overflow_mul-result c =
     let a = c.args in
-    let most = mul-le-mul {n₁ = a.value} {m₁ = c.unit.result} {n₂ = 4294967295} {m₂ = 100} (search rules) (omega (arith, c.unit.ensures, unit_most a.t (a.it.quantity % 64))) in
+    let value : c.from.result ≤ 4294967295 = rw c.from.ensures (search rules) in
+    let most = mul-le-mul {n₁ = c.from.result} {m₁ = c.unit.result} {n₂ = 4294967295} {m₂ = 100} value (omega (arith, c.unit.ensures, unit_most a.t (a.it.quantity % 64))) in
     record { fits = omega (arith, most) }
 
 pub factor-requires : goal.factor-requires
 factor-requires c = λ other. short c.args.t c.args.it c.args.value c.requires.item_ruled c.requires.value_fits ((shape c.args.it c.requires.item_ruled.0).short other).0
 
-pub overflow_cast-result-in-512 : goal.overflow_cast-result-in-512
-overflow_cast-result-in-512 c = omega (arith, word c.args.t c.args.it c.args.value c.requires.item_ruled c.requires.value_fits 8 c.in-512.is refl)
+pub overflow_cast-result : goal.overflow_cast-result
+overflow_cast-result c = omega (arith, word c.args.t c.args.it c.args.value c.requires.item_ruled c.requires.value_fits 8 c.in-512.is refl)
 
 pub overflow_cast-value : goal.overflow_cast-value
 overflow_cast-value c = omega (arith, word c.args.t c.args.it c.args.value c.requires.item_ruled c.requires.value_fits 10 c.in-640.is refl)
@@ -94,10 +95,10 @@ pub returns-in-128 : goal.returns-in-128
 returns-in-128 c = arm c.args.t c.args.it c.args.value c.requires.item_ruled c.requires.value_fits 2 c.is_b.ensures c.if-is_b-value.false c.in-128.is refl
 
 pub returns-in-192 : goal.returns-in-192
-returns-in-192 c = arm c.args.t c.args.it c.args.value c.requires.item_ruled c.requires.value_fits 3 c.is_b.ensures c.if-is_b-value.false c.in-192.is (ap (λ (u : ℕ). Reading (Power (c.args.value * u))) c.unit.ensures)
+returns-in-192 c = arm c.args.t c.args.it c.args.value c.requires.item_ruled c.requires.value_fits 3 c.is_b.ensures c.if-is_b-value.false c.in-192.is (rw c.from.ensures (ap (λ (u : ℕ). Reading (Power (c.args.value * u))) c.unit.ensures))
 
 pub returns-in-256 : goal.returns-in-256
-returns-in-256 c = arm c.args.t c.args.it c.args.value c.requires.item_ruled c.requires.value_fits 4 c.is_b.ensures c.if-is_b-value.false c.in-256.is (ap (λ (x : Signed). Reading (SignedPower x)) c.signed_long.ensures)
+returns-in-256 c = arm c.args.t c.args.it c.args.value c.requires.item_ruled c.requires.value_fits 4 c.is_b.ensures c.if-is_b-value.false c.in-256.is (ap (λ (x : Signed). Reading (SignedPower x)) c.signed_in.ensures)
 
 pub returns-in-320 : goal.returns-in-320
 returns-in-320 c = arm c.args.t c.args.it c.args.value c.requires.item_ruled c.requires.value_fits 5 c.is_b.ensures c.if-is_b-value.false c.in-320.is (c.unless.ensures ∙ ap (λ (x : Quantity). cond (ltb top_count c.args.value) (Refused ValueImpossible) (Reading x)) c.energy.ensures)

@@ -1,15 +1,17 @@
 -- The tests are the definition's own; what is laid out in the rows was read from the items in turn.
-use lib.ListN.{length, take, replicate, length-map}
-use Rattle.std.proofs.Common.{◌≡◌, sym, ap, ap₂, subst, ◌∙◌, arith, true, false, ◌||◌, List, map, ℕ, ◌/◌, ◌≤◌, Ok}
+use lib.ListN.{length, take, drop, replicate, length-map}
+use Rattle.std.proofs.Common.{◌≡◌, Ok, ◌++◌, sym, ap, ap₂, subst, ◌∙◌, arith, true, false, ◌||◌, List, map, ℕ, ◌≤◌}
 use lib.Dec.{ltb}
-use lib.Seq.{sets}
+use lib.Seq.{sets, length-take-le}
 use borrow.Author.Tests.{not-true, not-false, ltb-false}
-use Rattle.directory.specs.Item.{items}
-use Rattle.directory.proofs.Flat.{items_length}
+use Rattle.directory.specs.Run.{words_of}
+use Rattle.directory.specs.Views.{Asked}
 use Rattle.modbus.proofs.Frames.{neither}
-use Rattle.modbus.proofs.Stores.{sets_taken}
+use Rattle.modbus.proofs.Stores.{sets_front, sets_taken}
 use Rattle.reading.specs.Told.{kind_of}
 use Rattle.reading.specs.Cells.{cell_of}
+use Rattle.collector.specs.declared.data.Data.{Data}
+use Rattle.reading.specs.declared.Answer.{Answer}
 use Rattle.collector.specs.Collector.{item_of}
 use Rattle.collector.specs.Whole.{in_turn, any_thirteen, readings_in, Rows}
 use Rattle.collector.proofs.When.{item_possible}
@@ -17,56 +19,89 @@ use Rattle.collector.proofs.Turns.{turns_length, turns_read, read_length, read_a
 use Rattle.collector.proofs.Rows.{short, short_kept, refused_kept, all_filled, allowed, few_items}
 use Rattle.collector.proofs.whole.fill.Goals as goal
 
+-- the calls one by one
+abbrev turns : Data → List Answer
+turns d = in_turn (length d.asked) (item_of d.order d.tenths d.asked d.reply.now)
+
+-- there are as many as items
+count : (d : Data) (n : ℕ) → n ≡ length d.asked → n ≡ length (turns d)
+count d n e = e ∙ sym (turns_length (length d.asked) (item_of d.order d.tenths d.asked d.reply.now))
+
 pub returns-then-values-n : goal.returns-then-values-n
 returns-then-values-n c =
-    let count : length c.args.asked.now / 4 ≡ length (in_turn (length (items c.args.asked.now)) (item_of c.args.order c.args.tenths (items c.args.asked.now) c.args.reply.now)) = sym (items_length c.args.asked.now) ∙ sym (turns_length (length (items c.args.asked.now)) (item_of c.args.order c.args.tenths (items c.args.asked.now) c.args.reply.now)) in
-    let h = subst (λ (n : ℕ). (ltb (length c.args.values.now) n || ltb (length c.args.kinds.now) n) ≡ true) count c.if-values-n.true in
-    allowed (sym (short_kept (in_turn (length (items c.args.asked.now)) (item_of c.args.order c.args.tenths (items c.args.asked.now) c.args.reply.now)) c.args.values.now c.args.kinds.now h))
+    let d = c.args.data.now in
+    let h = subst (λ (n : ℕ). (ltb (length c.args.values.now) n || ltb (length c.args.kinds.now) n) ≡ true) (count d _ c.len-n.ensures.value) c.if-values-n.true in
+    allowed (sym (short_kept (turns d) c.args.values.now c.args.kinds.now h))
 
 pub all_read-requires : goal.all_read-requires
 all_read-requires c =
-    let few : length c.args.asked.now / 4 ≤ 125 = omega (arith, few_items (items c.args.asked.now) c.requires.items_ruled.0, c.requires.data_in_reply.1, items_length c.args.asked.now) in
-    let few : length (items c.args.asked.now) ≤ 125 = omega (arith, few_items (items c.args.asked.now) c.requires.items_ruled.0, c.requires.data_in_reply.1) in
-    record { items_ruled = c.requires.items_ruled; data_in_reply = c.requires.data_in_reply.0; rows_have_room = (few, few) }
+    let d = c.args.data.now in
+    let few : length d.asked ≤ 125 = omega (arith, few_items d.asked c.len-n.ensures.ruled.shapely, c.requires) in
+    (few, few)
 
 pub returns-then-not-all_read : goal.returns-then-not-all_read
 returns-then-not-all_read c =
-    let count : length c.args.asked.now / 4 ≡ length (in_turn (length (items c.args.asked.now)) (item_of c.args.order c.args.tenths (items c.args.asked.now) c.args.reply.now)) = sym (items_length c.args.asked.now) ∙ sym (turns_length (length (items c.args.asked.now)) (item_of c.args.order c.args.tenths (items c.args.asked.now) c.args.reply.now)) in
-    let roomy : short (in_turn (length (items c.args.asked.now)) (item_of c.args.order c.args.tenths (items c.args.asked.now) c.args.reply.now)) c.args.values.now c.args.kinds.now ≡ false = subst (λ (n : ℕ). (ltb (length c.args.values.now) n || ltb (length c.args.kinds.now) n) ≡ false) count c.if-values-n.false in
-    let any : any_thirteen (in_turn (length (items c.args.asked.now)) (item_of c.args.order c.args.tenths (items c.args.asked.now) c.args.reply.now)) ≡ true = not-false _ (sym c.all_read.ensures.value ∙ c.if-not-all_read.true) in
-    allowed (sym (refused_kept (in_turn (length (items c.args.asked.now)) (item_of c.args.order c.args.tenths (items c.args.asked.now) c.args.reply.now)) c.args.values.now c.args.kinds.now roomy any))
+    let d = c.args.data.now in
+    let roomy : short (turns d) c.args.values.now c.args.kinds.now ≡ false = subst (λ (n : ℕ). (ltb (length c.args.values.now) n || ltb (length c.args.kinds.now) n) ≡ false) (count d _ c.len-n.ensures.value) c.if-values-n.false in
+    let any : any_thirteen (turns d) ≡ true = not-false _ (sym c.all_read.ensures.value ∙ c.if-not-all_read.true) in
+    allowed (sym (refused_kept (turns d) c.args.values.now c.args.kinds.now roomy any))
 
 -- a row that was laid out from its start on has what was laid out
 laid : (l r vs : List ℕ) (n : ℕ) → r ≡ sets l 0 vs → length vs ≡ n → n ≤ length l → take n r ≡ vs
 laid l r vs n h long room = ap₂ take (sym long) h ∙ sets_taken l vs (omega (arith, long, room))
 
-pub lay-requires : goal.lay-requires
-lay-requires c =
-    let count : length c.args.asked.now / 4 ≡ length (in_turn (length (items c.args.asked.now)) (item_of c.args.order c.args.tenths (items c.args.asked.now) c.args.reply.now)) = sym (items_length c.args.asked.now) ∙ sym (turns_length (length (items c.args.asked.now)) (item_of c.args.order c.args.tenths (items c.args.asked.now) c.args.reply.now)) in
-    let roomy : short (in_turn (length (items c.args.asked.now)) (item_of c.args.order c.args.tenths (items c.args.asked.now) c.args.reply.now)) c.args.values.now c.args.kinds.now ≡ false = subst (λ (n : ℕ). (ltb (length c.args.values.now) n || ltb (length c.args.kinds.now) n) ≡ false) count c.if-values-n.false in
-    let all : c.all_read.result ≡ true = c.if-not-all_read.false in
-    let few : length c.args.asked.now / 4 ≤ 125 = omega (arith, few_items (items c.args.asked.now) c.requires.items_ruled.0, c.requires.data_in_reply.1, items_length c.args.asked.now) in
-    let n = neither (ltb (length c.args.values.now) (length (in_turn (length (items c.args.asked.now)) (item_of c.args.order c.args.tenths (items c.args.asked.now) c.args.reply.now)))) (ltb (length c.args.kinds.now) (length (in_turn (length (items c.args.asked.now)) (item_of c.args.order c.args.tenths (items c.args.asked.now) c.args.reply.now)))) roomy in
-    let values = ltb-false (length c.args.values.now) (length (in_turn (length (items c.args.asked.now)) (item_of c.args.order c.args.tenths (items c.args.asked.now) c.args.reply.now))) n.0 in
-    let kinds = ltb-false (length c.args.kinds.now) (length (in_turn (length (items c.args.asked.now)) (item_of c.args.order c.args.tenths (items c.args.asked.now) c.args.reply.now))) n.1 in
-    let cells = laid_length (replicate 125 0) _ (map cell_of (readings_in (in_turn (length (items c.args.asked.now)) (item_of c.args.order c.args.tenths (items c.args.asked.now) c.args.reply.now)))) (c.all_read.ensures.cells_after all) in
-    let numbers = laid_length (replicate 125 0) _ (map kind_of (readings_in (in_turn (length (items c.args.asked.now)) (item_of c.args.order c.args.tenths (items c.args.asked.now) c.args.reply.now)))) (c.all_read.ensures.numbers_after all) in
-    record { as_many_laid_out = (omega (arith, few, cells), omega (arith, few, numbers)); rows_have_room = (omega (arith, values, count), omega (arith, kinds, count)) }
+-- what was copied to the start of a row was laid out there
+copied : (row front vs : List ℕ) (n : ℕ) → front ≡ vs → length vs ≡ n → n ≤ length row → front ++ drop n row ≡ sets row 0 vs
+copied row front vs n h long room = ap₂ (λ (f : List ℕ) (k : ℕ). f ++ drop k row) h (sym long) ∙ sym (sets_front row vs (omega (arith, long, room)))
+
+-- all calls gave a reading, so there are as many readings
+many : (d : Data) → any_thirteen (turns d) ≡ false → length (readings_in (turns d)) ≡ length d.asked
+many d none =
+    let ask = item_of d.order d.tenths d.asked d.reply.now in
+    let r = turns_read (length d.asked) ask (λ i b. item_possible d.order d.tenths d.asked d.reply.now i b) none in
+    ap length (read_all (length d.asked) ask r.0 r.1) ∙ read_length (length d.asked) ask r.0 r.1
+
+-- a row of 125 that was laid out has room for n
+room : (r vs : List ℕ) (n : ℕ) → r ≡ sets (replicate 125 0) 0 vs → n ≤ 125 → n ≤ length r
+room r vs n h few = omega (arith, laid_length (replicate 125 0) r vs h, few)
+
+-- both rows lent have, too
+rows : (values kinds : List ℕ) (n : ℕ) → (ltb (length values) n || ltb (length kinds) n) ≡ false → (n ≤ length values) × (n ≤ length kinds)
+rows values kinds n h = let t = neither (ltb (length values) n) (ltb (length kinds) n) h in (ltb-false _ _ t.0, ltb-false _ _ t.1)
+
+-- no more items than words
+few : (d : Data) (n : ℕ) → n ≡ length d.asked → Asked d.asked → words_of d.asked ≤ 125 → n ≤ 125
+few d n e good most = omega (arith, e, few_items d.asked good.shapely, most)
+
+pub slice_bounds-cells-end : goal.slice_bounds-cells-end
+slice_bounds-cells-end c =
+    room _ (map cell_of (readings_in (turns c.args.data.now))) _ (c.all_read.ensures.cells_after c.if-not-all_read.false) (few c.args.data.now _ c.len-n.ensures.value c.len-n.ensures.ruled c.requires)
+
+pub slice_bounds-copy_from_slice-end-3 : goal.slice_bounds-copy_from_slice-end-3
+slice_bounds-copy_from_slice-end-3 c =
+    let r = room _ (map cell_of (readings_in (turns c.args.data.now))) _ (c.all_read.ensures.cells_after c.if-not-all_read.false) (few c.args.data.now _ c.len-n.ensures.value c.len-n.ensures.ruled c.requires) in
+    sym (length-take-le c.len-n.result c.all_read.new.cells r)
+
+pub copy_from_slice-requires : goal.copy_from_slice-requires
+copy_from_slice-requires c =
+    let r = room _ (map cell_of (readings_in (turns c.args.data.now))) _ (c.all_read.ensures.cells_after c.if-not-all_read.false) (few c.args.data.now _ c.len-n.ensures.value c.len-n.ensures.ruled c.requires) in
+    length-take-le c.len-n.result c.args.values.now (rows _ c.args.kinds.now _ c.if-values-n.false).0 ∙ sym (length-take-le c.len-n.result c.all_read.new.cells r)
 
 pub returns : goal.returns
 returns c =
-    let count : length c.args.asked.now / 4 ≡ length (in_turn (length (items c.args.asked.now)) (item_of c.args.order c.args.tenths (items c.args.asked.now) c.args.reply.now)) = sym (items_length c.args.asked.now) ∙ sym (turns_length (length (items c.args.asked.now)) (item_of c.args.order c.args.tenths (items c.args.asked.now) c.args.reply.now)) in
-    let roomy : short (in_turn (length (items c.args.asked.now)) (item_of c.args.order c.args.tenths (items c.args.asked.now) c.args.reply.now)) c.args.values.now c.args.kinds.now ≡ false = subst (λ (n : ℕ). (ltb (length c.args.values.now) n || ltb (length c.args.kinds.now) n) ≡ false) count c.if-values-n.false in
+    let d = c.args.data.now in
+    let n : ℕ = c.len-n.result in
+    let roomy : short (turns d) c.args.values.now c.args.kinds.now ≡ false = subst (λ (n : ℕ). (ltb (length c.args.values.now) n || ltb (length c.args.kinds.now) n) ≡ false) (count d _ c.len-n.ensures.value) c.if-values-n.false in
     let all : c.all_read.result ≡ true = c.if-not-all_read.false in
-    let none : any_thirteen (in_turn (length (items c.args.asked.now)) (item_of c.args.order c.args.tenths (items c.args.asked.now) c.args.reply.now)) ≡ false = not-true _ (sym c.all_read.ensures.value ∙ all) in
-    let readings : length (readings_in (in_turn (length (items c.args.asked.now)) (item_of c.args.order c.args.tenths (items c.args.asked.now) c.args.reply.now))) ≡ length c.args.asked.now / 4 = let ask = item_of c.args.order c.args.tenths (items c.args.asked.now) c.args.reply.now in
-    let r = turns_read (length (items c.args.asked.now)) ask (λ i b. item_possible c.args.order c.args.tenths (items c.args.asked.now) c.args.reply.now i b) none in
-    ap length (read_all (length (items c.args.asked.now)) ask r.0 r.1) ∙ read_length (length (items c.args.asked.now)) ask r.0 r.1 ∙ items_length c.args.asked.now in
-    let few : length c.args.asked.now / 4 ≤ 125 = omega (arith, few_items (items c.args.asked.now) c.requires.items_ruled.0, c.requires.data_in_reply.1, items_length c.args.asked.now) in
-    let r = c.all_read.ensures in
-    let filled = sym (all_filled (in_turn (length (items c.args.asked.now)) (item_of c.args.order c.args.tenths (items c.args.asked.now) c.args.reply.now)) c.args.values.now c.args.kinds.now roomy none) in
+    let none : any_thirteen (turns d) ≡ false = not-true _ (sym c.all_read.ensures.value ∙ all) in
+    let filled = sym (all_filled (turns d) c.args.values.now c.args.kinds.now roomy none) in
+    let readings : length (readings_in (turns d)) ≡ n = many d none ∙ sym c.len-n.ensures.value in
+    let fits : n ≤ 125 = few d n c.len-n.ensures.value c.len-n.ensures.ruled c.requires in
+    let long = rows _ c.args.kinds.now n c.if-values-n.false in
+    let cells = laid (replicate 125 0) _ (map cell_of (readings_in (turns d))) n (c.all_read.ensures.cells_after all) (length-map (readings_in (turns d)) cell_of ∙ readings) fits in
+    let numbers = laid (replicate 125 0) _ (map kind_of (readings_in (turns d))) n (c.all_read.ensures.numbers_after all) (length-map (readings_in (turns d)) kind_of ∙ readings) fits in
     record {
-      answers = ap Ok count ∙ ap (λ (o : Rows). o.answer) filled;
-      cells = c.lay.ensures.values_after ∙ ap (sets c.args.values.now 0) (laid (replicate 125 0) _ (map cell_of (readings_in (in_turn (length (items c.args.asked.now)) (item_of c.args.order c.args.tenths (items c.args.asked.now) c.args.reply.now)))) _ (r.cells_after all) (length-map (readings_in (in_turn (length (items c.args.asked.now)) (item_of c.args.order c.args.tenths (items c.args.asked.now) c.args.reply.now))) cell_of ∙ readings) few) ∙ ap (λ (o : Rows). o.values) filled;
-      numbers = c.lay.ensures.kinds_after ∙ ap (sets c.args.kinds.now 0) (laid (replicate 125 0) _ (map kind_of (readings_in (in_turn (length (items c.args.asked.now)) (item_of c.args.order c.args.tenths (items c.args.asked.now) c.args.reply.now)))) _ (r.numbers_after all) (length-map (readings_in (in_turn (length (items c.args.asked.now)) (item_of c.args.order c.args.tenths (items c.args.asked.now) c.args.reply.now))) kind_of ∙ readings) few) ∙ ap (λ (o : Rows). o.kinds) filled;
+      answers = ap Ok (count d n c.len-n.ensures.value) ∙ ap (λ (o : Rows). o.answer) filled;
+      cells = copied c.args.values.now _ (map cell_of (readings_in (turns d))) n (c.copy_from_slice.ensures.after ∙ cells) (length-map (readings_in (turns d)) cell_of ∙ readings) long.0 ∙ ap (λ (o : Rows). o.values) filled;
+      numbers = copied c.args.kinds.now _ (map kind_of (readings_in (turns d))) n (c.copy_from_slice-2.ensures.after ∙ numbers) (length-map (readings_in (turns d)) kind_of ∙ readings) long.1 ∙ ap (λ (o : Rows). o.kinds) filled;
     }

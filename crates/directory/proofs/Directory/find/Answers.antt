@@ -1,7 +1,7 @@
 -- The window from low to high is halved until the item stands in its middle, or it is empty.
-use lib.ListN.{length, take, get_or}
+use lib.ListN.{length, get_or}
 use Rattle.std.proofs.Common.{◌≡◌, sym, ap, ◌∙◌, ◌+◌, ◌-◌, ◌/◌, ◌<◌, arith}
-use Rattle.directory.specs.Item.{items, none}
+use Rattle.directory.specs.Item.{none}
 use Rattle.directory.specs.Run.{find_in}
 use Rattle.directory.specs.Views.{View, view_of}
 use Rattle.directory.proofs.Order.{Ascends, ruled_ascends}

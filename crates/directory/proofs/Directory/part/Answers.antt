@@ -1,10 +1,10 @@
 -- From 4 × first on there are 4 × count numbers to the end, and these are the items of the span.
 use lib.ListN.{length, take, drop}
-use Rattle.std.proofs.Common.{◌≡◌, sym, ap, ◌∙◌, ℕ, ◌+◌, ◌-◌, ◌*◌, ◌≤◌, arith}
+use Rattle.std.proofs.Common.{◌≡◌, ap, ◌∙◌, ℕ, ◌+◌, ◌-◌, ◌*◌, ◌≤◌, arith}
 use Rattle.directory.specs.Item.{items}
 use Rattle.directory.specs.Run.{run_items}
-use Rattle.directory.specs.Views.{View, view_of, Asked}
-use Rattle.directory.proofs.Views.{view_length, run_room, run_part, run_asked}
+use Rattle.directory.specs.Views.{View}
+use Rattle.directory.proofs.Views.{run_room, run_part, run_asked}
 use Rattle.directory.proofs.Directory.part.Goals as goal
 
 -- the span stands in what is seen
