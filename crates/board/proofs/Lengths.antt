@@ -7,7 +7,7 @@ use native.Mathlib.Nat.{min-le_left}
 use native.Mathlib.Omega.{arith}
 use lib.Dec.{T, ltb, eqb}
 use lib.ListN.{length, take, length-take}
-use Rattle.std.proofs.Common.{Option, Some, None, Ok}
+use Rattle.std.proofs.Common.{Option, Some, None, Result, Ok, Err}
 use Rattle.refusal.specs.declared.Refusal.{Refusal}
 use Rattle.refusal.specs.declared.Refusal.TheVariants.{MeterOutOfLimits, BufferShort}
 use Rattle.refusal.specs.declared.ErrorCode.{ErrorCode}
@@ -15,8 +15,7 @@ use Rattle.refusal.specs.declared.ErrorCode.TheVariants.{Function}
 use Rattle.crc.proofs.Laws.{length_sealed}
 use Rattle.words.specs.declared.Order.{Order}
 use Rattle.directory.specs.declared.Span.{Span}
-use Rattle.directory.specs.declared.Span.TheVariants.{Items, Error}
-use Rattle.directory.specs.Run.{run_items}
+use Rattle.directory.specs.Run.{span, run_items}
 use Rattle.directory.specs.Views.{View, passes}
 use Rattle.own.specs.Own.{own}
 use Rattle.own.proofs.Rules.{own_passes}
@@ -33,7 +32,7 @@ use Rattle.registers.specs.Shown.{shown_of}
 use Rattle.store.specs.Writes.{fault_of, left_by, written_of}
 use Rattle.board.specs.declared.Handled.{Handled}
 use Rattle.board.specs.Reads.{items_sent, data_reply, read_bytes, read_reply}
-use Rattle.board.specs.Board.{Outcome, refused_of, silent_of, sent_of, sent_or_silent, write_reply, obeyed_in, heard_as, to_second, board_in, board_of}
+use Rattle.board.specs.Board.{Outcome, refused_of, silent_of, sent_of, sent_or_silent, write_reply, obeyed_in, heard_as, to_second, view_for, board_in, board_of}
 use Rattle.board.proofs.Sent.{length_items}
 
 -- ---- the bytes of a reply
@@ -48,7 +47,7 @@ write_long frame (Some code) = omega arith
 write_long frame None = echo_long frame
 
 module _ (v : View) (good : T (passes v)) (o : Order) (shown : ℕ → ℕ) (frame : List ℕ) where
-  pub data_long : (first count : ℕ) → read_in v frame ≡ Items first count → length (data_reply frame (items_sent o shown (run_items v.seen first count))) ≤ 256
+  pub data_long : (first count : ℕ) → read_in v frame ≡ Ok (span first count) → length (data_reply frame (items_sent o shown (run_items v.seen first count))) ≤ 256
   data_long first count e =
       let a = legal_read v good e in
       let its = run_items v.seen first count in
@@ -58,9 +57,14 @@ module _ (v : View) (good : T (passes v)) (o : Order) (shown : ℕ → ℕ) (fra
   pub read_long : length (read_reply v o shown frame) ≤ 256
   read_long = by (read_in v frame) refl
     where
-      by : (span : Span) → read_in v frame ≡ span → length (read_bytes v o shown frame span) ≤ 256
-      by (Error code) e = omega arith
-      by (Items first count) e = data_long first count e
+      by : (judged : Result Span ErrorCode) → read_in v frame ≡ judged → length (read_bytes v o shown frame judged) ≤ 256
+      by (Err code) e = omega arith
+      by (Ok asked) e = data_long asked.first asked.count e
+
+-- each view has room for its replies
+pub view_passes : (tenant : Bool) → T (passes (view_for own tenant))
+view_passes true = tenant_passes own own_passes.passed
+view_passes false = own_passes.passed
 
 -- ---- and so of what the board answers
 

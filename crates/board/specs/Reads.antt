@@ -1,11 +1,11 @@
 -- Paper 01, "What the meter does with a frame", step 4: the reply to a read.
-use Rattle.std.specs.Prelude.{ℕ, ◌*◌, List, [], ◌∷◌, ◌++◌}
+use Rattle.std.specs.Prelude.{ℕ, ◌*◌, List, [], ◌∷◌, ◌++◌, Result, Ok, Err}
+use Rattle.refusal.specs.declared.ErrorCode.{ErrorCode}
 use Rattle.crc.specs.Crc.{sealed}
 use Rattle.words.specs.declared.Order.{Order}
 use Rattle.words.specs.Words.{sent}
 use Rattle.directory.specs.declared.Item.{Item}
 use Rattle.directory.specs.declared.Span.{Span}
-use Rattle.directory.specs.declared.Span.TheVariants.{Items, Error}
 use Rattle.directory.specs.Run.{run_items}
 use Rattle.directory.specs.Views.{View}
 use Rattle.modbus.specs.Frame.{address_of, function_of, word_number}
@@ -22,9 +22,9 @@ abbrev pub data_reply : List ℕ → List ℕ → List ℕ
 data_reply frame words = sealed (address_of frame ∷ function_of frame ∷ 2 * word_number frame ∷ words)
 
 -- the reply to a read: an error, or else data
-abbrev pub read_bytes : View → Order → (ℕ → ℕ) → List ℕ → Span → List ℕ
-read_bytes v o shown frame (Error code) = error_reply frame code
-read_bytes v o shown frame (Items first count) = data_reply frame (items_sent o shown (run_items v.seen first count))
+abbrev pub read_bytes : View → Order → (ℕ → ℕ) → List ℕ → Result Span ErrorCode → List ℕ
+read_bytes v o shown frame (Err code) = error_reply frame code
+read_bytes v o shown frame (Ok asked) = data_reply frame (items_sent o shown (run_items v.seen asked.first asked.count))
 
 -- 4. the reply to a frame that is a read, as it is judged over a view
 abbrev pub read_reply : View → Order → (ℕ → ℕ) → List ℕ → List ℕ

@@ -17,7 +17,7 @@ use Rattle.directory.specs.Order.{every, shaped, meant}
 use Rattle.directory.specs.Run.{is_l, run_items, words_of}
 use Rattle.directory.specs.Views.{Asked}
 use Rattle.directory.proofs.Order.{Narrow, every_at}
-use Rattle.directory.proofs.Shapes.{shape}
+use Rattle.directory.proofs.Shapes.{shape_narrow}
 use Rattle.reading.specs.declared.Answer.TheVariants.{Refused}
 use Rattle.reading.specs.Readings.{reading_of}
 use Rattle.collector.specs.Collector.{place_of, item_of}
@@ -36,14 +36,6 @@ words_within [] i h = absurd (omega (arith, h))
 words_within (it ∷ its) zero h = omega arith
 words_within (it ∷ its) (suc i) h = omega (arith, words_within its i (omega (arith, h)))
 
--- an item of a directory sends one word or two
-pub narrow_at : (its : List Item) → T (every shaped its) → (i : ℕ) → i < length its → Narrow (get_or its i none)
-narrow_at its t i h = by (is_l (get_or its i none)) refl
-  where
-    by : (l : Bool) → is_l (get_or its i none) ≡ l → Narrow (get_or its i none)
-    by true e = let two = eqb-true (get_or its i none).words 2 e in record { some = omega (arith, two); few = omega (arith, two) }
-    by false e = let one = ((shape (get_or its i none) (every_at shaped its t i h)).short e).0 in record { some = omega (arith, one); few = omega (arith, one) }
-
 -- what is known of an item whose words stand at a place of a reply
 pub record Known (its : List Item) (reply : List ℕ) (index at : ℕ) (it : Item) : Type 0 where
   pub is : it ≡ get_or its index none
@@ -58,7 +50,7 @@ known its reply good room index at it inside here is =
       is = is;
       shapely = rw is (every_at shaped its good.shapely index inside);
       means = rw is (every_at meant its good.means index inside);
-      narrow = rw is (narrow_at its good.shapely index inside);
+      narrow = rw is (shape_narrow (get_or its index none) (every_at shaped its good.shapely index inside));
       room = omega (arith, here, ap (λ (it : Item). it.words) is, words_within its index inside, room);
     }
 

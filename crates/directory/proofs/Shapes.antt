@@ -10,6 +10,7 @@ use Rattle.directory.specs.declared.Item.{Item}
 use Rattle.directory.specs.Item.{in_bytes, is_b}
 use Rattle.directory.specs.Order.{shaped, room_of}
 use Rattle.directory.specs.Run.{is_l}
+use Rattle.directory.proofs.Order.{Narrow}
 
 pub record Shape (it : Item) : Type 0 where
   pub short : is_l it ≡ false → (it.words ≡ 1) × (room_of it ≤ 2)
@@ -42,3 +43,11 @@ shape it h = by (in_bytes it) (is_l it) refl refl h
     by false false a l k =
         let one : it.words ≡ 1 = eqb-true _ _ ((and-eq-true_iff (eqb it.words 1) _).0 k).0 in
         record { short = λ e. (one, rw a (omega (arith, one))); long = λ e. absurd (false≢true (sym l ∙ e)); roomy = rw a (omega arith) }
+
+-- an item of a directory sends one word or two
+pub shape_narrow : (it : Item) → shaped it ≡ true → Narrow it
+shape_narrow it h = by (is_l it) refl
+  where
+    by : (l : Bool) → is_l it ≡ l → Narrow it
+    by true e = let two = eqb-true it.words 2 e in record { some = omega (arith, two); few = omega (arith, two) }
+    by false e = let one = ((shape it h).short e).0 in record { some = omega (arith, one); few = omega (arith, one) }

@@ -2,12 +2,9 @@
 use lib.ListN.{length, drop}
 use Rattle.std.proofs.Common.{◌≡◌, refl, sym, ap, ◌∙◌, Bool, true, false, ◌&&◌, not, List, ◌++◌, ℕ, ◌≤◌, arith}
 use Rattle.std.proofs.Math.Bool.{and-eq-true_iff}
-use lib.Dec.{T, ltb}
+use lib.Dec.{ltb}
 use borrow.Author.Tests.{lt-ltb, le-ltb, eq-eqb, ne_eqb}
-use Rattle.directory.specs.Views.{passes}
-use Rattle.directory.proofs.Tenant.{tenant_passes}
 use Rattle.own.specs.Own.{own}
-use Rattle.own.proofs.Rules.{own_passes}
 use Rattle.refusal.specs.declared.ErrorCode.TheVariants.{Function}
 use Rattle.modbus.specs.Replies.{error_reply}
 use Rattle.modbus.specs.Frame.{address_of, silence, is_write}
@@ -19,15 +16,10 @@ use Rattle.store.specs.Writes.{fault_of, left_by, written_of}
 use Rattle.board.specs.Askers.{is_tenant}
 use Rattle.board.specs.Board.{silent_of, write_reply, obeyed_in, to_second, address_for, view_for, board_of}
 use Rattle.board.proofs.Cases.{allowed, board_1, board_2, board_silent, board_obeys, unwritten, read_sent, other_sent, obeys_write}
-use Rattle.board.proofs.Lengths.{write_long, read_long}
+use Rattle.board.proofs.Lengths.{view_passes, write_long, read_long}
 use Rattle.board.proofs.Rooms.{along, kept, put, over}
 use Rattle.board.proofs.answer.Goals.{in_default-frame-via-in-16+else-may_write, in_default-frame-via-in_default}
 use Rattle.board.proofs.answer.Goals as goal
-
--- each view has room for its replies
-view_passes : (tenant : Bool) → T (passes (view_for own tenant))
-view_passes true = tenant_passes own own_passes.passed
-view_passes false = own_passes.passed
 
 no_write : (may w : Bool) → w ≡ false → (may && w) ≡ false
 no_write true w h = h
