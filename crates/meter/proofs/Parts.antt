@@ -1,5 +1,5 @@
 -- What is known of a sample, an energy and a record that are within limits.
-use mathlib.Core.Path.{◌≡◌, refl, ap}
+use mathlib.Core.Path.{◌≡◌, refl}
 use mathlib.Core.Bool.{Bool, true, false, ◌&&◌, ◌||◌, not, false≢true, and-eq-true_iff}
 use Prim.Native.Nat.{ℕ, ◌+◌, ◌/◌, ◌%◌, ◌≤◌}
 use native.Mathlib.Nat.{le_trans}
@@ -57,10 +57,6 @@ module _ (t : ℕ) (p : Powers) (h : powers_ok t p ≡ true) where
   pub in_force_most : (in_force p).magnitude ≤ power_limit t
   unfolding in_force
   in_force_most = leb-true _ _ ((and-eq-true_iff (phases_ok (power_limit t) p) (leb (sum_of p).magnitude (power_limit t))).0 h).1
-
--- the test of phases and sum, by what was found of the phases
-pub powers_by : (t : ℕ) (p : Powers) {found : Bool} → phases_ok (power_limit t) p ≡ found → powers_ok t p ≡ (found && leb (sum_of p).magnitude (power_limit t))
-powers_by t p h = ap (λ (b : Bool). b && leb (sum_of p).magnitude (power_limit t)) h
 
 pub record SampleParts (t : ℕ) (s : Sample) : Type 0 where
   pub p : powers_ok t s.p ≡ true

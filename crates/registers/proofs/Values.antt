@@ -2,13 +2,11 @@
 use mathlib.Core.Path.{◌≡◌, refl, sym, ap, ◌∙◌}
 use mathlib.Core.Bool.{Bool, true, false, and-eq-true_iff}
 use mathlib.Core.List.{List, [], ◌∷◌, ◌++◌, map}
-use Prim.Native.Nat.{ℕ, zero, suc, ◌+◌, ◌-◌, ◌*◌, ◌/◌, ◌%◌, ◌≤◌, zero-le}
+use Prim.Native.Nat.{ℕ, zero, suc, ◌-◌, ◌*◌, ◌/◌, ◌%◌, ◌≤◌, zero-le}
 use native.Mathlib.Nat.{zero-div}
-use native.Mathlib.Omega.{arith}
 use lib.Dec.{ltb}
 use borrow.Author.Tests.{ltb-true, ltb-false}
-use lib.ListN.{length, get_or, drop, get_or-map, get_or-append, get_or-eq_default}
-use lib.Seq.{get_or-append-add}
+use lib.ListN.{get_or, drop, get_or-map, get_or-append, get_or-eq_default}
 use Rattle.signed.specs.declared.Signed.{Signed}
 use Rattle.signed.specs.Signs.{sign_word}
 use Rattle.words.proofs.Signs.{twos_plain}
@@ -22,7 +20,7 @@ use Rattle.meter.specs.Energies.{energy_ok, counters_ok}
 use Rattle.meter.specs.Meters.{meter_t, meter_ok, energies_of, energy_at}
 use Rattle.meter.proofs.Parts.{meter_parts, counter_parts, sample_parts, phases_most, powers_phases, in_force_most, energy_top}
 use Rattle.registers.specs.SignedWords.{signed_word}
-use Rattle.registers.specs.Shown.{powers_of, power_at, power_values, signed_word_values, sign_values, count_values, low_values, high_values, wrap_values, plain_values, kinds_shown, shown_of}
+use Rattle.registers.specs.Shown.{powers_of, power_at, power_values, signed_word_values, sign_values, count_values, low_values, high_values, wrap_values, kinds_shown, shown_of}
 
 each : {A : Type 0} (f : A → ℕ) (l : List A) (i : ℕ) (d : A) → f d ≡ 0 → get_or (map f l) i 0 ≡ f (get_or l i d)
 each f l i d z = ap (λ (n : ℕ). get_or (map f l) i n) (sym z) ∙ get_or-map f l i d
@@ -132,26 +130,6 @@ power_most m which h =
     most_at (power_limit t) (powers_of m)
     (in_force_most t m.latest.p s.p, (in_force_most t m.latest.q s.q, (p.0, (p.1, (p.2, (q.0, (q.1, (q.2, tt))))))))
     which
-
--- ---- plain words
-
--- the words of one group and then of another
-pub second_at : (a b : List ℕ) (i : ℕ) → length a ≤ i → get_or (a ++ b) i 0 ≡ get_or b (i - length a) 0
-second_at a b i h = ap (λ (k : ℕ). get_or (a ++ b) k 0) split ∙ get_or-append-add a b (i - length a) 0
-  where
-    split : i ≡ length a + (i - length a)
-    split = omega (arith, h)
-
-pub plain_at : (m : Meter) (which : ℕ) → 4 ≤ which → get_or (plain_values m) which 0 ≡ get_or (m.setup.standard ++ m.setup.output) (which - 4) 0
-unfolding plain_values
-plain_at m zero h = absurd (omega arith)
-plain_at m (suc zero) h = absurd (omega arith)
-plain_at m (suc (suc zero)) h = absurd (omega arith)
-plain_at m (suc (suc (suc zero))) h = absurd (omega arith)
-plain_at m (suc (suc (suc (suc k)))) h = ap (λ (i : ℕ). get_or (m.setup.standard ++ m.setup.output) i 0) back
-  where
-    back : k ≡ suc (suc (suc (suc k))) - 4
-    back = omega arith
 
 -- ---- kinds
 
