@@ -1,6 +1,6 @@
 -- What was written, with what is left written behind it, is all of it written; an item sends one word or two.
 use lib.ListN.{length, drop, drop_of_length-le}
-use Rattle.std.proofs.Common.{◌≡◌, refl, sym, ap, ◌∙◌, List, ℕ, ◌+◌, ◌*◌, ◌<◌, arith}
+use Rattle.std.proofs.Common.{◌≡◌, sym, ap, ◌∙◌, List, ℕ, ◌+◌, ◌*◌, ◌<◌, arith}
 use lib.Seq.{sets, length-sets}
 use Rattle.words.specs.Words.{sent}
 use Rattle.directory.specs.declared.Item.{Item}
