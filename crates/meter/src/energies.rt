@@ -29,7 +29,7 @@ impl Energy {
         requires { (self.wh.0 ≤ top_wh) × (power ≤ top_power) }
         ensures { result ≡ plus_of self power }
     {
-        let sum = self.remainder as u64 + power;
+        let sum = u64::from(self.remainder) + power;
         Energy {
             wh: WattHours(self.wh.0 + sum / Meter::ONE_WH),
             remainder: (sum % Meter::ONE_WH) as u32,

@@ -1,10 +1,11 @@
 // What a meter is given when it is made (paper 01, "The meter's record"; paper 02: a second address, request 3, and an order of words,
 // request 5).
 ghost use Rattle.std.specs.Prelude.{◌≡◌};
-ghost use Rattle.meter.specs.Meters.{given_ok};
+ghost use Rattle.meter.specs.Meters.{given_ok, new_of};
 
 use crate::Meter;
 use ratio::Ratios;
+use refusal::Refusal;
 use words::Order;
 
 #[derive(Clone, Copy)]
@@ -21,6 +22,22 @@ pub struct Given {
 impl Given {
     // The second address of a meter that has none.
     pub const NO_SECOND: u8 = 0;
+
+    // What a new meter of it is answered with: the first that applies.
+    pub(crate) fn judged(self) -> Result<(), Refusal>
+        ensures { result ≡ (new_of self).answer }
+    {
+        if !self.ratios.within() {
+            return Err(Refusal::RatioOutOfLimits);
+        }
+        if self.address < Meter::ADDRESS_LEAST {
+            return Err(Refusal::OwnAddressZero);
+        }
+        if self.second == self.address {
+            return Err(Refusal::MeterOutOfLimits);
+        }
+        Ok(())
+    }
 
     pub(crate) fn within(self) -> bool
         ensures { result ≡ given_ok self }

@@ -3,7 +3,7 @@
 ghost use Rattle.std.specs.Prelude.{◌≡◌};
 ghost use Rattle.meter.specs.Groups.{setup_ok, no_setup, code_of};
 
-#[derive(Clone, Copy)]
+#[derive(Clone, Copy, Debug, PartialEq, Eq)]
 pub struct Setup {
     // The words from 0x2000 on.
     pub standard: [u16; 16],
@@ -16,28 +16,26 @@ impl Setup {
     const CODE_AT: usize = 0x0a;
 
     // The setup of a new meter: every word 0.
+    // Stays by hand: the default of an array tells each of its words, and that these are the words of the definition was a lemma more.
     pub(crate) fn blank() -> Setup
         ensures { result ≡ no_setup }
     {
         Setup {
-            standard: [0u16; 16],
-            output: [0u16; 24],
+            standard: [0; 16],
+            output: [0; 24],
         }
     }
 
     pub(crate) fn within(self) -> bool
         ensures { result ≡ setup_ok self }
     {
-        let standard = self.standard;
-        let output = self.output;
-        setup::standard_ok(standard) & setup::output_ok(output)
+        setup::standard_ok(self.standard) & setup::output_ok(self.output)
     }
 
     // The code of the window.
     pub(crate) fn code(self) -> u16
         ensures { result ≡ code_of self }
     {
-        let standard = self.standard;
-        standard[Setup::CODE_AT]
+        self.standard[Setup::CODE_AT]
     }
 }

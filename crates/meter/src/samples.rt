@@ -7,7 +7,7 @@ use crate::Meter;
 use signed::Signed;
 
 // P or Q of each phase, in hundredths of W or var.
-#[derive(Clone, Copy)]
+#[derive(Clone, Copy, Debug, Default, PartialEq, Eq)]
 pub struct Powers {
     pub l1: i64,
     pub l2: i64,
@@ -18,10 +18,9 @@ impl Powers {
     fn phases_within(self, limit: u64) -> bool
         ensures { result ≡ phases_ok limit self }
     {
-        let one = Signed::of(self.l1);
-        let two = Signed::of(self.l2);
-        let three = Signed::of(self.l3);
-        (one.magnitude <= limit) & (two.magnitude <= limit) & (three.magnitude <= limit)
+        (self.l1.unsigned_abs() <= limit)
+            & (self.l2.unsigned_abs() <= limit)
+            & (self.l3.unsigned_abs() <= limit)
     }
 
     // The sum of all three phases, which the power limit is for. Phases are added nowhere else.
@@ -49,13 +48,12 @@ impl Powers {
         if !self.phases_within(limit) {
             return false;
         }
-        let sum = self.sum();
-        sum.magnitude <= limit
+        self.sum().magnitude <= limit
     }
 }
 
 // A power factor, in thousandths.
-#[derive(Clone, Copy)]
+#[derive(Clone, Copy, Debug, Default, PartialEq, Eq)]
 pub struct Factor(pub i16);
 
 impl Factor {
@@ -63,11 +61,11 @@ impl Factor {
     pub fn signed(self) -> Signed
         ensures { result ≡ factor_of self }
     {
-        Signed::of(self.0 as i64)
+        Signed::of(i64::from(self.0))
     }
 }
 
-#[derive(Clone, Copy)]
+#[derive(Clone, Copy, Debug, PartialEq, Eq)]
 pub struct Sample {
     // In mV: L1, L2, L3, then chained L1-L2, L2-L3, L3-L1, in the order of the quantities of the directory.
     pub voltages: [u32; 6],
@@ -93,18 +91,13 @@ impl Sample {
     pub(crate) fn blank() -> Sample
         ensures { result ≡ no_sample }
     {
-        let idle = Powers {
-            l1: 0,
-            l2: 0,
-            l3: 0,
-        };
         Sample {
-            voltages: [0u32; 6],
-            currents: [0u32; 4],
-            p: idle,
-            q: idle,
+            voltages: [0; 6],
+            currents: [0; 4],
+            p: Powers::default(),
+            q: Powers::default(),
             s: 0,
-            factor: Factor(0),
+            factor: Factor::default(),
             sector: 0,
             sequence: 1,
             frequency: 0,
@@ -115,11 +108,10 @@ impl Sample {
     pub(crate) fn within(self, t: u32) -> bool
         ensures { result ≡ sample_ok t self }
     {
-        let factor = self.factor.signed();
         self.p.within(t)
             & self.q.within(t)
             & (self.s <= ratio::power_limit(t))
-            & (factor.magnitude <= Meter::FACTOR_TOP)
+            & (self.factor.signed().magnitude <= Meter::FACTOR_TOP)
             & (self.sector <= Meter::SECTOR_TOP)
             & ((self.sequence == 1) | (self.sequence == 2))
     }

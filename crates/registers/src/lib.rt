@@ -2,75 +2,62 @@
 // that is sent for it. A match on the kind comes first, then one on which quantity of the kind. A number that is no quantity shows 0.
 #![tactic(auto)]
 
-ghost use Rattle.std.specs.Prelude.{◌≡◌, true, [], ◌∷◌, ◌++◌, ◌≤◌, get_or};
+ghost use Rattle.std.specs.Prelude.{◌≡◌, ◌++◌, get_or};
 ghost use Rattle.signed.specs.Signs.{sign_word};
 ghost use Rattle.meter.specs.Samples.{factor_of};
-ghost use Rattle.meter.specs.Meters.{meter_ok, energy_at};
-ghost use Rattle.registers.specs.Shown.{power_at, power_values, signed_word_values, sign_values, count_values, low_values, high_values, wrap_values, factor_values, plain_values, shown_of};
+ghost use Rattle.meter.specs.Meters.{energy_at};
+ghost use Rattle.registers.specs.Shown.{power_at, power_values, signed_word_values, factor_values, plain_values, shown_of};
 
 use counts::WattHours;
 use directory::quantity::*;
 use meter::Meter;
 use meter::groups::Setup;
-use meter::samples::Factor;
+use meter::sound::Sound;
 use signed::Signed;
 
 // The value that is sent for a quantity. An item of one word sends the lower 16 bits of it.
-pub fn shown(m: Meter, quantity: u16) -> u32
-    requires { meter_ok m ≡ true }
-    ensures { result ≡ shown_of m quantity }
+// Kinds stay numbers, as the table of the directory holds them: a quantity is 64 × kind + which.
+pub fn shown(sound: Sound, quantity: u16) -> u32
+    ensures { result ≡ shown_of sound.meter quantity }
 {
     let which = quantity % 64;
     let kind = quantity - which;
     match kind {
-        VOLTAGE => voltage(m, which),
-        CURRENT => current(m, which),
-        POWER => power(m, which),
-        SIGNED_POWER => signed_power(m, which),
-        ENERGY_COUNT => count(m, which),
-        LOW => low(m, which),
-        HIGH => high(m, which),
-        WRAP => wrap(m, which),
-        FACTOR => factor(m.latest.factor, which),
-        SIGN => sign(m, which),
-        SECTOR => only(m.latest.sector as u16, which),
-        FREQUENCY => only(m.latest.frequency, which),
-        KTA => only(m.given.ratios.kta, which),
-        KTV => only(m.given.ratios.ktv, which),
-        SEQUENCE => only(m.latest.sequence as u16, which),
-        PLAIN => plain(m, which),
+        VOLTAGE => value_at(sound.meter.latest.voltages, which),
+        CURRENT => value_at(sound.meter.latest.currents, which),
+        POWER => power(sound, which),
+        SIGNED_POWER => signed_power(sound, which),
+        ENERGY_COUNT => energy_at(sound.meter, which)
+            .register(sound.meter.given.ratios.tenths())
+            .0,
+        LOW => energy_at(sound.meter, which).low(),
+        HIGH => energy_at(sound.meter, which).high() as u32,
+        WRAP => energy_at(sound.meter, which).wrap(sound.meter.given.ratios.tenths()) as u32,
+        FACTOR => factor(sound, which),
+        SIGN => sign_word(power_at(sound, which)),
+        SECTOR => value_at([u32::from(sound.meter.latest.sector)], which),
+        FREQUENCY => value_at([u32::from(sound.meter.latest.frequency)], which),
+        KTA => value_at([u32::from(sound.meter.given.ratios.kta)], which),
+        KTV => value_at([u32::from(sound.meter.given.ratios.ktv)], which),
+        SEQUENCE => value_at([u32::from(sound.meter.latest.sequence)], which),
+        PLAIN => plain(sound.meter, which),
         _ => 0,
     }
 }
 
-fn voltage(m: Meter, which: u16) -> u32
-    ensures { result ≡ get_or m.latest.voltages which 0 }
+// One value of a kind that holds its values as they are sent; 0 past them.
+fn value_at<const N: usize>(values: [u32; N], which: u16) -> u32
+    ensures { result ≡ get_or values.entry which 0 }
 {
-    let voltages = m.latest.voltages;
-    long_at(&voltages, which)
-}
-
-fn current(m: Meter, which: u16) -> u32
-    ensures { result ≡ get_or m.latest.currents which 0 }
-{
-    let currents = m.latest.currents;
-    long_at(&currents, which)
-}
-
-// One figure of a list; 0 past its end.
-fn long_at(longs: &[u32], which: u16) -> u32
-    ensures { result ≡ get_or longs.now which 0 }
-{
-    let i = which as usize;
-    if i < longs.len() { longs[i] } else { 0 }
+    values.get(usize::from(which)).copied().unwrap_or(0)
 }
 
 // Registers of P, Q and S, of the average and of its peak hold a magnitude in the unit that the ratio gives. One more register of
 // S is in whole VA at any ratio.
-fn power(m: Meter, which: u16) -> u32
-    requires { meter_ok m ≡ true }
-    ensures { result ≡ get_or (power_values m) which 0 }
+fn power(sound: Sound, which: u16) -> u32
+    ensures { result ≡ get_or (power_values sound.meter) which 0 }
 {
+    let m = sound.meter;
     let t = m.given.ratios.tenths();
     match which {
         S => ratio::power_register(t, m.latest.s) as u32,
@@ -78,42 +65,26 @@ fn power(m: Meter, which: u16) -> u32
         AVERAGE => ratio::power_register(t, m.average.last) as u32,
         PEAK => ratio::power_register(t, m.average.peak) as u32,
         _ => {
-            let p = power_at(m, which);
+            let p = power_at(sound, which);
             ratio::power_register(t, p.magnitude) as u32
         }
     }
 }
 
 // Whole W or var, cut toward zero: the magnitude is divided. A negative power that is cut to zero is sent as 0.
-fn signed_power(m: Meter, which: u16) -> u32
-    requires { meter_ok m ≡ true }
-    ensures { result ≡ get_or (signed_word_values m) which 0 }
+fn signed_power(sound: Sound, which: u16) -> u32
+    ensures { result ≡ get_or (signed_word_values sound.meter) which 0 }
 {
-    let p = power_at(m, which);
+    let p = power_at(sound, which);
     words::twos_long(p.negative, (p.magnitude / ratio::WHOLE_UNIT) as u32)
 }
 
-fn sign(m: Meter, which: u16) -> u32
-    requires { meter_ok m ≡ true }
-    ensures { result ≡ get_or (sign_values m) which 0 }
-{
-    sign_word(power_at(m, which))
-}
-
-// The sign of the power before it is cut to whole units.
-fn sign_word(power: Signed) -> u32
-    ensures { result ≡ sign_word power.negative }
-{
-    if power.negative { 1 } else { 0 }
-}
-
 // A signed power of the latest sample: 3-phase P or Q, or that of one phase.
-fn power_at(m: Meter, which: u16) -> Signed
-    requires { meter_ok m ≡ true }
-    ensures { result ≡ power_at m which }
+fn power_at(sound: Sound, which: u16) -> Signed
+    ensures { result ≡ power_at sound.meter which }
 {
-    let p = m.latest.p;
-    let q = m.latest.q;
+    let p = sound.meter.latest.p;
+    let q = sound.meter.latest.q;
     match which {
         P => p.in_force(),
         Q => q.in_force(),
@@ -130,31 +101,11 @@ fn power_at(m: Meter, which: u16) -> Signed
     }
 }
 
-fn count(m: Meter, which: u16) -> u32
-    ensures { result ≡ get_or (count_values m) which 0 }
+// The sign of the power before it is cut to whole units.
+fn sign_word(power: Signed) -> u32
+    ensures { result ≡ sign_word power.negative }
 {
-    let register = energy_at(m, which).register(m.given.ratios.tenths());
-    register.0
-}
-
-fn low(m: Meter, which: u16) -> u32
-    ensures { result ≡ get_or (low_values m) which 0 }
-{
-    energy_at(m, which).low()
-}
-
-fn high(m: Meter, which: u16) -> u32
-    requires { meter_ok m ≡ true }
-    ensures { result ≡ get_or (high_values m) which 0 }
-{
-    energy_at(m, which).high() as u32
-}
-
-fn wrap(m: Meter, which: u16) -> u32
-    requires { meter_ok m ≡ true }
-    ensures { result ≡ get_or (wrap_values m) which 0 }
-{
-    energy_at(m, which).wrap(m.given.ratios.tenths()) as u32
+    u32::from(power.negative)
 }
 
 fn energy_at(m: Meter, which: u16) -> WattHours
@@ -170,26 +121,18 @@ fn energy_at(m: Meter, which: u16) -> WattHours
 }
 
 // Hundredths are the thousandths cut toward zero: the magnitude is divided.
-fn factor(f: Factor, which: u16) -> u32
-    requires { (factor_of f).magnitude ≤ 1000 }
-    ensures { result ≡ get_or (factor_values (factor_of f)) which 0 }
+fn factor(sound: Sound, which: u16) -> u32
+    ensures { result ≡ get_or (factor_values (factor_of sound.meter.latest.factor)) which 0 }
 {
-    let thousandths = f.signed();
+    let thousandths = sound.meter.latest.factor.signed();
     match which {
-        HUNDREDTHS => words::twos_word(
+        HUNDREDTHS => u32::from(words::twos_word(
             thousandths.negative,
             (thousandths.magnitude / 10) as u16,
-        ) as u32,
+        )),
         THOUSANDTHS => words::twos_long(thousandths.negative, thousandths.magnitude as u32),
         _ => 0,
     }
-}
-
-// The value of a kind that has only one quantity.
-fn only(value: u16, which: u16) -> u32
-    ensures { result ≡ get_or (value ∷ []) which 0 }
-{
-    if which == 0 { value as u32 } else { 0 }
 }
 
 fn plain(m: Meter, which: u16) -> u32
@@ -199,27 +142,21 @@ fn plain(m: Meter, which: u16) -> u32
         ZEROS => 0,
         BYTE_IDENTIFIER => 0x11,
         WORD_IDENTIFIER => 0x1114,
-        MINUTES => m.average.minutes() as u32,
-        _ => setup_at(m.setup, (which - FIRST_SETUP) as usize) as u32,
+        MINUTES => u32::from(m.average.minutes()),
+        _ => u32::from(setup_at(m.setup, usize::from(which - FIRST_SETUP))),
     }
 }
 
-// A setup word by its index: first the standard group's 16 words, then the output group's 24.
+// A setup word by its index: first the standard group's 16 words, then the output group's 24. Past both of them there is 0.
 fn setup_at(setup: Setup, i: usize) -> u16
     ensures { result ≡ get_or (setup.standard ++ setup.output) i 0 }
 {
-    let standard = setup.standard;
-    let output = setup.output;
-    setup_word(&standard, &output, i)
-}
-
-// The same with the groups lent as slices. Past both of them there is 0.
-fn setup_word(standard: &[u16], output: &[u16], i: usize) -> u16
-    ensures { result ≡ get_or (standard.now ++ output.now) i 0 }
-{
-    if i < standard.len() {
-        return standard[i];
+    match setup.standard.get(i) {
+        Some(word) => *word,
+        None => setup
+            .output
+            .get(i - setup.standard.len())
+            .copied()
+            .unwrap_or(0),
     }
-    let j = i - standard.len();
-    if j < output.len() { output[j] } else { 0 }
 }

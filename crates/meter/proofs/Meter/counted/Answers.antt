@@ -15,13 +15,13 @@ in_force-p-requires c = held_p c.args.self c.args.sample c.requires.0 c.requires
 pub in_force-requires : goal.in_force-requires
 in_force-requires c = held_q c.args.self c.args.sample c.requires.0 c.requires.1
 
-pub plus-next-requires : goal.plus-next-requires
-plus-next-requires c =
+pub plus-requires : goal.plus-requires
+plus-requires c =
     rw (c.in_force-p.ensures, c.in_force.ensures)
     (room c.args.self c.args.sample c.requires.0 c.requires.1)
 
-pub after-next-requires : goal.after-next-requires
-after-next-requires c =
+pub after-requires : goal.after-requires
+after-requires c =
     let m = c.args.self in
     rw c.in_force-p.ensures
     (joins (meter_t m) (code_of m.setup) m.average (in_force c.args.sample.p) (meter_parts m c.requires.0).average (p_most m c.args.sample c.requires.0 c.requires.1))
@@ -29,6 +29,6 @@ after-next-requires c =
 pub returns : goal.returns
 returns c =
     let m = c.args.self in
-    let counters = c.plus-next.ensures ∙ (λ i. with_powers m.counters (c.in_force-p.ensures i) (c.in_force.ensures i)) in
-    let average = c.after-next.ensures ∙ (λ i. after_second (c.code.ensures i) m.average (c.in_force-p.ensures i)) in
+    let counters = c.plus.ensures ∙ (λ i. with_powers m.counters (c.in_force-p.ensures i) (c.in_force.ensures i)) in
+    let average = c.after.ensures ∙ (λ i. after_second (c.code.ensures i) m.average (c.in_force-p.ensures i)) in
     λ i. with_average (with_latest (with_counters m (counters i)) c.args.sample) (average i)

@@ -9,12 +9,12 @@ pub returns-then-not-phases_within : goal.returns-then-not-phases_within
 returns-then-not-phases_within c =
     sym (powers_by c.args.t c.args.self (sym (c.phases_within.ensures ∙ ap (λ (l : ℕ). phases_ok l c.args.self) c.power_limit-limit.ensures) ∙ c.if-not-phases_within.true))
 
-pub sum-sum-requires : goal.sum-sum-requires
-sum-sum-requires c =
+pub sum-requires : goal.sum-requires
+sum-requires c =
     let held : phases_ok (power_limit c.args.t) c.args.self ≡ true = sym (c.phases_within.ensures ∙ ap (λ (l : ℕ). phases_ok l c.args.self) c.power_limit-limit.ensures) ∙ c.if-not-phases_within.false in
     phases_held c.args.t c.args.self held
 
 pub returns : goal.returns
 returns c =
     let held : phases_ok (power_limit c.args.t) c.args.self ≡ true = sym (c.phases_within.ensures ∙ ap (λ (l : ℕ). phases_ok l c.args.self) c.power_limit-limit.ensures) ∙ c.if-not-phases_within.false in
-    rw (c.sum-sum.ensures, c.power_limit-limit.ensures) (sym (powers_by c.args.t c.args.self held))
+    rw (c.sum.ensures, c.power_limit-limit.ensures) (sym (powers_by c.args.t c.args.self held))

@@ -5,4 +5,4 @@ use Rattle.meter.proofs.samples.Sample.within.Goals as goal
 
 pub returns : goal.returns
 unfolding sample_ok
-returns c = rw (c.within.ensures, c.within-2.ensures, c.power_limit.ensures, c.signed-factor.ensures) refl
+returns c = rw (c.within.ensures, c.within-2.ensures, c.power_limit.ensures, c.signed.ensures) refl
