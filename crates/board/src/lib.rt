@@ -50,9 +50,9 @@ pub fn handle(meter: Meter, frame: &[u8], buffer: &mut [u8]) -> Handled
 fn answer(meter: &mut Meter, frame: &[u8], buffer: &mut [u8]) -> Result<Option<usize>, Refusal>
     ensures { Allowed (board_of meter.old frame.now buffer.old) (record { reply = result; meter = meter.new }) buffer.new }
 {
-    if !meter.within() {
+    let Some(sound) = meter.sound() else {
         return Err(Refusal::MeterOutOfLimits);
-    }
+    };
     let Some(room) = buffer.first_chunk_mut() else {
         return Err(Refusal::BufferShort);
     };
@@ -63,7 +63,7 @@ fn answer(meter: &mut Meter, frame: &[u8], buffer: &mut [u8]) -> Result<Option<u
     match frame[1] {
         modbus::WRITE_MULTIPLE_REGISTERS if asker.may_write() => Ok(write(meter, frame, room)),
         _ if frame[0] == modbus::BROADCAST => Ok(None),
-        modbus::READ_HOLDING_REGISTERS => Ok(Some(reads::read(asker, *meter, frame, room))),
+        modbus::READ_HOLDING_REGISTERS => Ok(Some(reads::read(asker, sound, frame, room))),
         _ => Ok(Some(modbus::put_error(frame, ErrorCode::Function, room))),
     }
 }

@@ -27,7 +27,7 @@ pub overflow_cast-buffer : goal.overflow_cast-buffer
 overflow_cast-buffer c = omega (arith, c.requires.room, c.word_at.ensures)
 
 pub put_items-end-requires : goal.put_items-end-requires
-put_items-end-requires c = record { items_narrow = c.requires.items_narrow; within_limits = c.requires.within_limits; room = simp length-set (omega (arith, c.requires.words_as_asked.1, c.requires.room)) }
+put_items-end-requires c = record { items_narrow = c.requires.items_narrow; room = simp length-set (omega (arith, c.requires.words_as_asked.1, c.requires.room)) }
 
 pub overflow_add-result : goal.overflow_add-result
 overflow_add-result c =
@@ -39,15 +39,15 @@ returns c =
     let long : length ((λ (n : ℕ). address_of c.args.frame.now ∷
     function_of c.args.frame.now ∷
     2 * n ∷
-    items_sent c.args.m.given.order (shown_of c.args.m) (items c.args.asked.now)) (word_number c.args.frame.now)) ≡ c.put_items-end.result = omega (arith, length_items c.args.m.given.order (shown_of c.args.m) (items c.args.asked.now), c.put_items-end.ensures.value) in
+    items_sent c.args.sound.meter.given.order (shown_of c.args.sound.meter) (items c.args.asked.now)) (word_number c.args.frame.now)) ≡ c.put_items-end.result = omega (arith, length_items c.args.sound.meter.given.order (shown_of c.args.sound.meter) (items c.args.asked.now), c.put_items-end.ensures.value) in
     let room : c.put_items-end.result + 2 ≤ length c.args.buffer.now = omega (arith, c.put_items-end.ensures.value, c.requires.words_as_asked.1, c.requires.room) in
     let stored : c.put_items-end.new.buffer ≡ sets c.args.buffer.now 0 ((λ (n : ℕ). address_of c.args.frame.now ∷
     function_of c.args.frame.now ∷
     2 * n ∷
-    items_sent c.args.m.given.order (shown_of c.args.m) (items c.args.asked.now)) (word_number c.args.frame.now)) = c.put_items-end.ensures.buffer_after ∙ ap (λ (n : ℕ). sets c.args.buffer.now 0 ((λ (n : ℕ). address_of c.args.frame.now ∷
+    items_sent c.args.sound.meter.given.order (shown_of c.args.sound.meter) (items c.args.asked.now)) (word_number c.args.frame.now)) = c.put_items-end.ensures.buffer_after ∙ ap (λ (n : ℕ). sets c.args.buffer.now 0 ((λ (n : ℕ). address_of c.args.frame.now ∷
     function_of c.args.frame.now ∷
     2 * n ∷
-    items_sent c.args.m.given.order (shown_of c.args.m) (items c.args.asked.now)) n)) c.word_at.ensures in
+    items_sent c.args.sound.meter.given.order (shown_of c.args.sound.meter) (items c.args.asked.now)) n)) c.word_at.ensures in
     record {
       value = omega (
         arith,
@@ -55,10 +55,10 @@ returns c =
         length_sealed ((λ (n : ℕ). address_of c.args.frame.now ∷
             function_of c.args.frame.now ∷
             2 * n ∷
-            items_sent c.args.m.given.order (shown_of c.args.m) (items c.args.asked.now)) (word_number c.args.frame.now)),
+            items_sent c.args.sound.meter.given.order (shown_of c.args.sound.meter) (items c.args.asked.now)) (word_number c.args.frame.now)),
       );
       buffer_after = seals c.args.buffer.now ((λ (n : ℕ). address_of c.args.frame.now ∷
           function_of c.args.frame.now ∷
           2 * n ∷
-          items_sent c.args.m.given.order (shown_of c.args.m) (items c.args.asked.now)) (word_number c.args.frame.now)) c.put_items-end.result _ _ _ long room c.put.ensures stored;
+          items_sent c.args.sound.meter.given.order (shown_of c.args.sound.meter) (items c.args.asked.now)) (word_number c.args.frame.now)) c.put_items-end.result _ _ _ long room c.put.ensures stored;
     }

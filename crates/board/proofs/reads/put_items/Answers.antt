@@ -21,9 +21,6 @@ item_at-it-requires c =
     let below : c.loop-i.i < length (items c.args.asked.now) = omega (arith, items_length c.args.asked.now) in
     omega (arith, below, items_length c.args.asked.now)
 
-pub shown-requires : goal.shown-requires
-shown-requires c = c.requires.within_limits
-
 pub put-requires : goal.put-requires
 put-requires c =
     let below : c.loop-i.i < length (items c.args.asked.now) = omega (arith, items_length c.args.asked.now) in
@@ -47,9 +44,9 @@ loop-i-preserved c =
     ∙ ap (λ (it : Item). it.words + words_of (drop (c.loop-i.i + 1) (items c.args.asked.now))) (sym c.item_at-it.ensures) in
     let l = c.loop-i in
     let it = c.item_at-it.result in
-    let wrote : c.put.new.buffer ≡ sets l.buffer l.at (sent c.args.m.given.order it.words (shown_of c.args.m it.quantity)) =
-    c.put.ensures ∙ ap (λ (v : ℕ). sets l.buffer l.at (sent c.args.m.given.order it.words v)) c.shown.ensures in
-    (omega (arith, below), ap length wrote ∙ length-sets l.buffer l.at (sent c.args.m.given.order it.words (shown_of c.args.m it.quantity)) ∙ l.invariant.1, omega (arith, passed, l.invariant.2), sent_on (items c.args.asked.now) l.i below c.args.m.given.order (shown_of c.args.m) l.buffer _ l.at it c.item_at-it.ensures wrote ∙ l.invariant.3)
+    let wrote : c.put.new.buffer ≡ sets l.buffer l.at (sent c.args.sound.meter.given.order it.words (shown_of c.args.sound.meter it.quantity)) =
+    c.put.ensures ∙ ap (λ (v : ℕ). sets l.buffer l.at (sent c.args.sound.meter.given.order it.words v)) c.shown.ensures in
+    (omega (arith, below), ap length wrote ∙ length-sets l.buffer l.at (sent c.args.sound.meter.given.order it.words (shown_of c.args.sound.meter it.quantity)) ∙ l.invariant.1, omega (arith, passed, l.invariant.2), sent_on (items c.args.asked.now) l.i below c.args.sound.meter.given.order (shown_of c.args.sound.meter) l.buffer _ l.at it c.item_at-it.ensures wrote ∙ l.invariant.3)
 
 pub shape_of-buffer : goal.shape_of-buffer
 shape_of-buffer c = c.loop-i.invariant.1
@@ -59,4 +56,4 @@ unfolding items_sent words_of
 returns c =
     let l = c.loop-i in
     let none_left = drop_of_length-le (items c.args.asked.now) {i = l.i} (omega (arith, items_length c.args.asked.now)) in
-    record { value = omega (arith, l.invariant.2, ap words_of none_left); buffer_after = sym (ap (λ (x : List Item). sets l.buffer l.at (items_sent c.args.m.given.order (shown_of c.args.m) x)) none_left) ∙ l.invariant.3 }
+    record { value = omega (arith, l.invariant.2, ap words_of none_left); buffer_after = sym (ap (λ (x : List Item). sets l.buffer l.at (items_sent c.args.sound.meter.given.order (shown_of c.args.sound.meter) x)) none_left) ∙ l.invariant.3 }

@@ -12,7 +12,7 @@ abbrev pub invariant-loop-i : goal.invariant-loop-i
 invariant-loop-i l = (l.i ≤ length (items l.asked)) ×
     (length l.buffer ≡ length l.initial.buffer) ×
     (l.at + 2 * words_of (drop l.i (items l.asked)) ≡ 3 + 2 * words_of (items l.asked)) ×
-    (sets l.buffer l.at (items_sent l.m.given.order (shown_of l.m) (drop l.i (items l.asked))) ≡ sets l.initial.buffer 3 (items_sent l.m.given.order (shown_of l.m) (items l.asked)))
+    (sets l.buffer l.at (items_sent l.sound.meter.given.order (shown_of l.sound.meter) (drop l.i (items l.asked))) ≡ sets l.initial.buffer 3 (items_sent l.sound.meter.given.order (shown_of l.sound.meter) (items l.asked)))
 
 abbrev pub decreases-loop-i : goal.decreases-loop-i
 decreases-loop-i l = l.count - l.i

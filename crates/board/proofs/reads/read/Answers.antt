@@ -27,11 +27,11 @@ pub with_table-requires : goal.with_table-requires
 unfolding directory flat
 with_table-requires c =
     let r = c.requires in
-    record { lent = part_lent (is_tenant c.args.asker) _ c.reach.ensures; within_limits = r.within_limits; function_below_0x80 = r.function_below_0x80 }
+    record { lent = part_lent (is_tenant c.args.asker) _ c.reach.ensures; function_below_0x80 = r.function_below_0x80 }
 
 pub returns : goal.returns
 unfolding directory flat
 returns c =
     let e = c.with_table.ensures in
-    let same = ap (λ (v : View). read_reply v c.args.m.given.order (shown_of c.args.m) c.args.frame.now) (part_view (is_tenant c.args.asker) _ c.reach.ensures) in
+    let same = ap (λ (v : View). read_reply v c.args.sound.meter.given.order (shown_of c.args.sound.meter) c.args.frame.now) (part_view (is_tenant c.args.asker) _ c.reach.ensures) in
     record { value = e.value ∙ ap length same; buffer_after = e.buffer_after ∙ ap (sets c.args.buffer.now 0) same }

@@ -34,7 +34,7 @@ pub put_data-requires : goal.put_data-requires
 put_data-requires c =
     let found : read_in (view_of c.args.table.now c.args.reach) c.args.frame.now ≡ Items c.in-Items.first c.in-Items.count = sym c.read_in.ensures ∙ c.in-Items.is in
     let asked : AskedPart c.args.table.now c.args.reach c.args.frame.now c.in-Items.first c.in-Items.count = asked_part c.args.table.now c.args.reach c.requires.lent found in
-    rw c.part-asked.ensures (record { items_narrow = asked.narrow; within_limits = c.requires.within_limits; words_as_asked = (asked.long, asked.sends); room = asked.room })
+    rw c.part-asked.ensures (record { items_narrow = asked.narrow; words_as_asked = (asked.long, asked.sends); room = asked.room })
 
 pub returns-in-Error : goal.returns-in-Error
 returns-in-Error c =
@@ -42,7 +42,7 @@ returns-in-Error c =
     let code = c.in-Error.code in
     let wrong : read_in (view_of c.args.table.now c.args.reach) c.args.frame.now ≡ Error code = sym j ∙ c.in-Error.is in
     let e = c.put_error.ensures in
-    let r = replied (view_of c.args.table.now c.args.reach) c.args.m.given.order (shown_of c.args.m) c.args.frame.now c.args.buffer.now (Error code) wrong (e.value, e.buffer_after) in
+    let r = replied (view_of c.args.table.now c.args.reach) c.args.sound.meter.given.order (shown_of c.args.sound.meter) c.args.frame.now c.args.buffer.now (Error code) wrong (e.value, e.buffer_after) in
     record { value = r.0; buffer_after = r.1 }
 
 pub returns-in-Items : goal.returns-in-Items
@@ -50,6 +50,6 @@ returns-in-Items c =
     let found : read_in (view_of c.args.table.now c.args.reach) c.args.frame.now ≡ Items c.in-Items.first c.in-Items.count = sym c.read_in.ensures ∙ c.in-Items.is in
     let asked : AskedPart c.args.table.now c.args.reach c.args.frame.now c.in-Items.first c.in-Items.count = asked_part c.args.table.now c.args.reach c.requires.lent found in
     let e = c.put_data.ensures in
-    let same = ap (λ (its : List Item). data_reply c.args.frame.now (items_sent c.args.m.given.order (shown_of c.args.m) its)) (ap items c.part-asked.ensures ∙ asked.holds) in
-    let r = replied (view_of c.args.table.now c.args.reach) c.args.m.given.order (shown_of c.args.m) c.args.frame.now c.args.buffer.now (Items c.in-Items.first c.in-Items.count) found (e.value ∙ ap length same, e.buffer_after ∙ ap (sets c.args.buffer.now 0) same) in
+    let same = ap (λ (its : List Item). data_reply c.args.frame.now (items_sent c.args.sound.meter.given.order (shown_of c.args.sound.meter) its)) (ap items c.part-asked.ensures ∙ asked.holds) in
+    let r = replied (view_of c.args.table.now c.args.reach) c.args.sound.meter.given.order (shown_of c.args.sound.meter) c.args.frame.now c.args.buffer.now (Items c.in-Items.first c.in-Items.count) found (e.value ∙ ap length same, e.buffer_after ∙ ap (sets c.args.buffer.now 0) same) in
     record { value = r.0; buffer_after = r.1 }
