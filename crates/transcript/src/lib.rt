@@ -46,6 +46,7 @@ fn run(input: &[u8], text: &mut [u8]) -> usize
     let mut meter = new.meter;
     let mut at = 0;
     let mut end = 0;
+    // Stays a while loop: the parts of `split_inclusive` hold their line feeds, which a second call would have to take off.
     while at < input.len() {
         let stop = lines::line_end(input, at);
         end += answer(&mut meter, &input[at..stop], &mut text[end..]);
