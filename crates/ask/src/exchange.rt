@@ -1,4 +1,8 @@
 // What a collector makes of a meter's reply.
+ghost use Rattle.std.specs.Prelude.{◌≡◌};
+ghost use Rattle.collector.specs.Collector.{collector_of};
+ghost use Rattle.ask.specs.Ask.{answer_of};
+
 use collector::{Answer, ErrorCode, Nameplate, Quantity, Refusal, Whole};
 use std::fmt::{self, Display};
 
@@ -28,7 +32,9 @@ impl Display for Unread {
 
 impl<'a> Exchange<'a> {
     // One item of the reply.
-    pub fn item(self, index: usize) -> Result<Quantity, Unread> {
+    pub fn item(self, index: usize) -> Result<Quantity, Unread>
+        ensures { collector_of self.entry.request.now self.entry.reply.now self.entry.plate index ≡ answer_of result }
+    {
         match collector::read(self.request, self.reply, self.plate, index) {
             Answer::Reading(quantity) => Ok(quantity),
             Answer::Error(code) => Err(Unread::Error(code)),

@@ -1,6 +1,7 @@
 // What a meter makes of a frame.
 ghost use Rattle.std.specs.Prelude.{◌≡◌, ◌≤◌, length, IfOk, IfSome};
 ghost use Rattle.board.specs.Board.{board_of};
+ghost use Rattle.ask.specs.Ask.{HeardOf};
 
 use crate::{Frame, REPLY_ROOM};
 use board::{Meter, Refusal, Reply};
@@ -26,6 +27,7 @@ impl<'a> Display for Heard<'a> {
 // Sends a meter a frame. The reply stands in the buffer.
 pub fn hear<'a>(meter: Meter, frame: &[u8], buffer: &'a mut [u8; REPLY_ROOM]) -> Heard<'a>
     ensures after { result.meter ≡ (board_of meter frame.now buffer.old).handled.meter }
+    ensures heard { HeardOf (board_of meter frame.now buffer.old) result.reply }
     ensures short { IfOk result.reply (λ sent. IfSome sent (λ reply. length reply.now ≤ 256)) }
 {
     let handled = board::handle(meter, frame, buffer);

@@ -4,6 +4,9 @@
 mod exchange;
 mod heard;
 
+ghost use Rattle.std.specs.Prelude.{◌≡◌};
+ghost use Rattle.ask.specs.Ask.{read_of, write_of};
+
 use board::{Answer, Given, Meter, Order, Ratios};
 use collector::Nameplate;
 pub use exchange::{Exchange, Items, Unread};
@@ -62,7 +65,9 @@ impl Display for Taken {
 }
 
 // A read of some words from a start on.
-pub fn read(address: u8, start: u16, words: u8) -> [u8; 8] {
+pub fn read(address: u8, start: u16, words: u8) -> [u8; 8]
+    ensures { result ≡ read_of address start words }
+{
     let mut frame = [address, 0x03, 0, 0, 0, 0, 0, 0];
     frame[2..4].copy_from_slice(&start.to_be_bytes());
     frame[4..6].copy_from_slice(&u16::from(words).to_be_bytes());
@@ -71,9 +76,15 @@ pub fn read(address: u8, start: u16, words: u8) -> [u8; 8] {
 }
 
 // A write of the 16 words from 0x2000 on, all 0 but the one at 0x2003 and the one at 0x200a, the window's code.
-pub fn write(address: u8, word: u8, code: u8) -> [u8; 41] {
+pub fn write(address: u8, word: u8, code: u8) -> [u8; 41]
+    ensures { result ≡ write_of address word code }
+{
     let mut frame = [0; 41];
-    frame[..7].copy_from_slice(&[address, 0x10, 0x20, 0x00, 0x00, 16, 32]);
+    frame[0] = address;
+    frame[1] = 0x10;
+    frame[2] = 0x20;
+    frame[5] = 16;
+    frame[6] = 32;
     frame[14] = word;
     frame[28] = code;
     crc::put(&mut frame, 39);

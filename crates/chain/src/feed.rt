@@ -43,8 +43,7 @@ impl Feed {
         let Some(Quantity::Wrap(wrap)) = self.first(&WRAP_WORD)? else {
             return Ok(());
         };
-        println!(
-            self.out;
+        println!(self.out;
             "  read as a count of {} in steps of {step} Wh, and a wrap of {wrap}",
             count.0
         )?;

@@ -36,8 +36,7 @@ fn from_samples(out: Stdout) -> io::Result<()> {
     if let Answer::Refused(reason) = new.answer {
         return println!(out; "{reason}");
     }
-    println!(
-        out;
+    println!(out;
         "a new meter of address 1, KTA {}, KTV {} tenths: a register counts steps of {} Wh",
         ratios.kta,
         ratios.ktv,
@@ -97,8 +96,7 @@ fn exact(out: Stdout, accepted: u64) -> io::Result<u64>
     requires { accepted ≤ 360 }
 {
     let energy = accepted * A_SECOND;
-    println!(
-        out;
+    println!(out;
         "samples accepted: {accepted}; their exact energy: {} Wh and {} hundredths of a watt-second, 360000 to the Wh",
         energy / Meter::ONE_WH,
         energy % Meter::ONE_WH
@@ -118,8 +116,7 @@ fn large_transformers(out: Stdout) -> io::Result<()> {
 fn years(out: Stdout, kta: u16, ktv: u16, wh: u64) -> io::Result<()> {
     let ratios = Ratios { kta, ktv };
     let t = ratios.tenths();
-    println!(
-        out;
+    println!(out;
         "a meter of KTA {kta}, KTV {ktv} tenths, so T is {t}: a register counts steps of {} Wh; its +Ea is {wh} Wh",
         ratio::energy_step(t)
     )?;

@@ -2,9 +2,6 @@
 // written.
 #![tactic(auto)]
 
-mod old;
-
-pub use old::{bytes as bytes_old, end, error, field, hex, name, number, refused, sentence, text};
 use std::fmt::{self, Display};
 
 // Bytes in hexadecimal, a space before each.

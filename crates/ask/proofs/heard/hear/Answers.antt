@@ -1,5 +1,4 @@
 -- A reply has 256 bytes at the most.
-use Rattle.std.proofs.Common.{◌≤◌}
 use Rattle.board.proofs.Lengths.{reply_long}
 use Rattle.ask.proofs.heard.hear.Goals as goal
 

@@ -1,1 +1,0 @@
--- Each turn leaves one byte fewer.

@@ -1,1 +1,0 @@
--- Each mark leaves less of the words, and no more marks are met than bytes.
