@@ -23,7 +23,7 @@ const SHORT: usize = 21;
 // The ratios of a meter without transformers.
 pub const DIRECT: Ratios = Ratios { kta: 1, ktv: 10 };
 
-// The paper's meters send the upper word first. This one has no second address.
+// Paper 01's meters send the upper word first. This one has no second address.
 pub const GIVEN: Given = Given {
     address: 1,
     second: Given::NO_SECOND,

@@ -33,26 +33,24 @@ fn upper_byte(out: Stdout, start: u16) -> io::Result<()> {
     println!(out; "0x0104 at 0x{start:04x}: {}", figures::item(exchange, 0))
 }
 
-// Figures at their limits, and each of them one past: the seconds and the sum of the open window, the average and the peak.
+// Figures at their limits, and each of them one past: the seconds and the sum of the open window, the average and the peak. Each
+// meter takes a sample of 0 and a frame.
 pub fn records(out: Stdout) -> io::Result<()> {
-    record(out, 299, 299 * LIMIT, LIMIT, LIMIT, "at the limits")?;
-    record(out, 300, 0, 0, 0, "300 open seconds at code 0")?;
-    record(out, 10, 10 * LIMIT + 1, 0, 0, "an open sum past 10 limits")?;
-    record(out, 0, 0, 1, 0, "an average past the peak")?;
-    record(out, 0, 0, 0, LIMIT + 1, "a peak past the limit")
-}
-
-// A sample of 0 and a frame, to a meter with these figures.
-fn record(out: Stdout, seconds: u16, sum: u64, last: u64, peak: u64, name: &str) -> io::Result<()> {
-    println!(out; "{name}")?;
-    let m = Meter {
-        average: Average {
-            window: Window { seconds, sum },
-            last,
-            peak,
-        },
-        ..figures::new(1)
-    };
-    figures::after(out, m, 1, 0, "  a frame")?;
+    for (name, seconds, sum, last, peak) in [
+        ("at the limits", 299, 299 * LIMIT, LIMIT, LIMIT),
+        ("300 open seconds at code 0", 300, 0, 0, 0),
+        ("an open sum past 10 limits", 10, 10 * LIMIT + 1, 0, 0),
+        ("an average past the peak", 0, 0, 1, 0),
+        ("a peak past the limit", 0, 0, 0, LIMIT + 1),
+    ] {
+        println!(out; "{name}")?;
+        let window = Window { seconds, sum };
+        let average = Average { window, last, peak };
+        let m = Meter {
+            average,
+            ..figures::new(1)
+        };
+        figures::after(out, m, 1, 0, "  a frame")?;
+    }
     Ok(())
 }
