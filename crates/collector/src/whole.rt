@@ -39,17 +39,17 @@ pub fn read_whole(
 }
 
 // Fills the rows. What is read is kept apart until all of it is: the last item may yet be refused.
-fn fill(data: &Data, values: &mut [u64], kinds: &mut [u8]) -> Result<usize, Unread>
-    requires { words_of data.now.asked ≤ 125 }
-    ensures { Filled (filled_by (in_turn (length data.now.asked) (item_of data.now.order data.now.tenths data.now.asked data.now.reply.now)) values.old kinds.old) result values.new kinds.new }
+fn fill(sent: &Data, values: &mut [u64], kinds: &mut [u8]) -> Result<usize, Unread>
+    requires { words_of sent.now.asked ≤ 125 }
+    ensures { Filled (filled_by (in_turn (length sent.now.asked) (item_of sent.now.order sent.now.tenths sent.now.asked sent.now.reply.now)) values.old kinds.old) result values.new kinds.new }
 {
-    let n = data.asked.len();
+    let n = sent.asked.len();
     if (values.len() < n) | (kinds.len() < n) {
         return Err(Unread::Refused(Refusal::RowShort));
     }
     let mut cells = [0u64; WORDS_MOST];
     let mut numbers = [0u8; WORDS_MOST];
-    if !all_read(data, &mut cells, &mut numbers) {
+    if !all_read(sent, &mut cells, &mut numbers) {
         return Err(Unread::Refused(Refusal::ValueImpossible));
     }
     values[..n].copy_from_slice(&cells[..n]);
@@ -58,16 +58,16 @@ fn fill(data: &Data, values: &mut [u64], kinds: &mut [u8]) -> Result<usize, Unre
 }
 
 // Reads the items in turn, each behind the words of the one before it. Whether none of them is refused.
-fn all_read(data: &Data, cells: &mut [u64], numbers: &mut [u8]) -> bool
-    requires { (length data.now.asked ≤ length cells.old) × (length data.now.asked ≤ length numbers.old) }
-    ensures value { result ≡ not (any_thirteen (in_turn (length data.now.asked) (item_of data.now.order data.now.tenths data.now.asked data.now.reply.now))) }
-    ensures cells_after { result ≡ true → cells.new ≡ sets cells.old 0 (map cell_of (readings_in (in_turn (length data.now.asked) (item_of data.now.order data.now.tenths data.now.asked data.now.reply.now)))) }
-    ensures numbers_after { result ≡ true → numbers.new ≡ sets numbers.old 0 (map kind_of (readings_in (in_turn (length data.now.asked) (item_of data.now.order data.now.tenths data.now.asked data.now.reply.now)))) }
+fn all_read(sent: &Data, cells: &mut [u64], numbers: &mut [u8]) -> bool
+    requires { (length sent.now.asked ≤ length cells.old) × (length sent.now.asked ≤ length numbers.old) }
+    ensures value { result ≡ not (any_thirteen (in_turn (length sent.now.asked) (item_of sent.now.order sent.now.tenths sent.now.asked sent.now.reply.now))) }
+    ensures cells_after { result ≡ true → cells.new ≡ sets cells.old 0 (map cell_of (readings_in (in_turn (length sent.now.asked) (item_of sent.now.order sent.now.tenths sent.now.asked sent.now.reply.now)))) }
+    ensures numbers_after { result ≡ true → numbers.new ≡ sets numbers.old 0 (map kind_of (readings_in (in_turn (length sent.now.asked) (item_of sent.now.order sent.now.tenths sent.now.asked sent.now.reply.now)))) }
 {
     let mut at = modbus::DATA_HEAD;
-    for i in 0..data.asked.len() {
-        let it = data.asked.at(i);
-        let Answer::Reading(q) = data.reading(it, at) else {
+    for i in 0..sent.asked.len() {
+        let it = sent.asked.at(i);
+        let Answer::Reading(q) = sent.reading(it, at) else {
             return false;
         };
         cells[i] = q.cell();

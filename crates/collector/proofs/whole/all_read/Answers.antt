@@ -40,7 +40,7 @@ loop-i-init c =
 
 pub reading-requires-clause-words_there : goal.reading-requires-clause-words_there
 reading-requires-clause-words_there c =
-    let d = c.args.data.now in
+    let d = c.args.sent.now in
     let l = c.loop-i in
     let below : l.i < length d.asked = omega (arith, l.invariant.0) in
     let k = known d.asked d.reply.now c.len-i-end.ensures.ruled d.fits l.i l.at c.at-it.result below l.invariant.1 c.at-it.ensures.value in
@@ -56,7 +56,7 @@ unread t it v a e none = by (thirteen it v) refl
 
 pub returns-in_default : goal.returns-in_default
 returns-in_default c =
-    let d = c.args.data.now in
+    let d = c.args.sent.now in
     let l = c.loop-i in
     let below : l.i < length d.asked = omega (arith, l.invariant.0) in
     let read = called d l.i l.at c.at-it.result c.reading.result below l.invariant.1 c.at-it.ensures.value c.reading.ensures in
@@ -66,7 +66,7 @@ returns-in_default c =
 
 pub overflow_add-at : goal.overflow_add-at
 overflow_add-at c =
-    let d = c.args.data.now in
+    let d = c.args.sent.now in
     let l = c.loop-i in
     let below : l.i < length d.asked = omega (arith, l.invariant.0) in
     let here : c.from.result ≡ (get_or d.asked l.i none).words = c.from.ensures ∙ ap (λ (it : Item). it.words) c.at-it.ensures.value in
@@ -74,7 +74,7 @@ overflow_add-at c =
 
 pub loop-i-preserved : goal.loop-i-preserved
 loop-i-preserved c =
-    let d = c.args.data.now in
+    let d = c.args.sent.now in
     let l = c.loop-i in
     let p = l.invariant.2 in
     let q = c.in-Reading.q in
@@ -95,7 +95,7 @@ loop-i-preserved c =
 
 pub returns : goal.returns
 returns c =
-    let d = c.args.data.now in
+    let d = c.args.sent.now in
     let l = c.loop-i in
     let p = l.invariant.2 in
     let all : l.i ≡ length d.asked = omega (arith, l.invariant.0) in

@@ -5,6 +5,6 @@ use Rattle.collector.proofs.Turns.{Laid}
 use Rattle.collector.proofs.whole.all_read.Given as goal
 
 abbrev pub invariant-loop-i : goal.invariant-loop-i
-invariant-loop-i l = (l.i-end ≡ length l.data.asked) ×
-    (l.at ≡ place_of l.data.asked l.i) ×
-    Laid (item_of l.data.order l.data.tenths l.data.asked l.data.reply.now) l.initial.cells l.initial.numbers l.cells l.numbers l.i
+invariant-loop-i l = (l.i-end ≡ length l.sent.asked) ×
+    (l.at ≡ place_of l.sent.asked l.i) ×
+    Laid (item_of l.sent.order l.sent.tenths l.sent.asked l.sent.reply.now) l.initial.cells l.initial.numbers l.cells l.numbers l.i

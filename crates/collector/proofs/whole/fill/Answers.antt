@@ -29,19 +29,19 @@ count d n e = e ∙ sym (turns_length (length d.asked) (item_of d.order d.tenths
 
 pub returns-then-values-n : goal.returns-then-values-n
 returns-then-values-n c =
-    let d = c.args.data.now in
+    let d = c.args.sent.now in
     let h = subst (λ (n : ℕ). (ltb (length c.args.values.now) n || ltb (length c.args.kinds.now) n) ≡ true) (count d _ c.len-n.ensures.value) c.if-values-n.true in
     allowed (sym (short_kept (turns d) c.args.values.now c.args.kinds.now h))
 
 pub all_read-requires : goal.all_read-requires
 all_read-requires c =
-    let d = c.args.data.now in
+    let d = c.args.sent.now in
     let few : length d.asked ≤ 125 = omega (arith, few_items d.asked c.len-n.ensures.ruled.shapely, c.requires) in
     (few, few)
 
 pub returns-then-not-all_read : goal.returns-then-not-all_read
 returns-then-not-all_read c =
-    let d = c.args.data.now in
+    let d = c.args.sent.now in
     let roomy : short (turns d) c.args.values.now c.args.kinds.now ≡ false = subst (λ (n : ℕ). (ltb (length c.args.values.now) n || ltb (length c.args.kinds.now) n) ≡ false) (count d _ c.len-n.ensures.value) c.if-values-n.false in
     let any : any_thirteen (turns d) ≡ true = not-false _ (sym c.all_read.ensures.value ∙ c.if-not-all_read.true) in
     allowed (sym (refused_kept (turns d) c.args.values.now c.args.kinds.now roomy any))
@@ -75,21 +75,21 @@ few d n e good most = omega (arith, e, few_items d.asked good.shapely, most)
 
 pub slice_bounds-cells-end : goal.slice_bounds-cells-end
 slice_bounds-cells-end c =
-    room _ (map cell_of (readings_in (turns c.args.data.now))) _ (c.all_read.ensures.cells_after c.if-not-all_read.false) (few c.args.data.now _ c.len-n.ensures.value c.len-n.ensures.ruled c.requires)
+    room _ (map cell_of (readings_in (turns c.args.sent.now))) _ (c.all_read.ensures.cells_after c.if-not-all_read.false) (few c.args.sent.now _ c.len-n.ensures.value c.len-n.ensures.ruled c.requires)
 
 pub slice_bounds-copy_from_slice-end-3 : goal.slice_bounds-copy_from_slice-end-3
 slice_bounds-copy_from_slice-end-3 c =
-    let r = room _ (map cell_of (readings_in (turns c.args.data.now))) _ (c.all_read.ensures.cells_after c.if-not-all_read.false) (few c.args.data.now _ c.len-n.ensures.value c.len-n.ensures.ruled c.requires) in
+    let r = room _ (map cell_of (readings_in (turns c.args.sent.now))) _ (c.all_read.ensures.cells_after c.if-not-all_read.false) (few c.args.sent.now _ c.len-n.ensures.value c.len-n.ensures.ruled c.requires) in
     sym (length-take-le c.len-n.result c.all_read.new.cells r)
 
 pub copy_from_slice-requires : goal.copy_from_slice-requires
 copy_from_slice-requires c =
-    let r = room _ (map cell_of (readings_in (turns c.args.data.now))) _ (c.all_read.ensures.cells_after c.if-not-all_read.false) (few c.args.data.now _ c.len-n.ensures.value c.len-n.ensures.ruled c.requires) in
+    let r = room _ (map cell_of (readings_in (turns c.args.sent.now))) _ (c.all_read.ensures.cells_after c.if-not-all_read.false) (few c.args.sent.now _ c.len-n.ensures.value c.len-n.ensures.ruled c.requires) in
     length-take-le c.len-n.result c.args.values.now (rows _ c.args.kinds.now _ c.if-values-n.false).0 ∙ sym (length-take-le c.len-n.result c.all_read.new.cells r)
 
 pub returns : goal.returns
 returns c =
-    let d = c.args.data.now in
+    let d = c.args.sent.now in
     let n : ℕ = c.len-n.result in
     let roomy : short (turns d) c.args.values.now c.args.kinds.now ≡ false = subst (λ (n : ℕ). (ltb (length c.args.values.now) n || ltb (length c.args.kinds.now) n) ≡ false) (count d _ c.len-n.ensures.value) c.if-values-n.false in
     let all : c.all_read.result ≡ true = c.if-not-all_read.false in
