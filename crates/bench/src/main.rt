@@ -31,5 +31,5 @@ fn answer(input: &[u8], text: &mut [u8]) -> usize
     requires { (length input.now ≤ 65536) × (2097152 ≡ length text.old) }
     ensures { (result ≤ 2097152) × (take result text.new ≡ bench_text input.now) }
 {
-    transcript::of(input, text)
+    transcript::of(input, text).unwrap()
 }
