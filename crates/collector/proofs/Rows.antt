@@ -17,6 +17,8 @@ use Rattle.directory.specs.Order.{every, shaped}
 use Rattle.directory.specs.Run.{run_items, words_of}
 use Rattle.directory.specs.Views.{View}
 use Rattle.reading.specs.declared.Answer.{Answer}
+use Rattle.directory.proofs.Order.{every_at}
+use Rattle.directory.proofs.Shapes.{shape_narrow}
 use Rattle.reading.specs.Told.{kind_of}
 use Rattle.reading.specs.Cells.{cell_of}
 use Rattle.replies.specs.declared.Unread.{Unread}
@@ -25,7 +27,7 @@ use Rattle.collector.specs.declared.Nameplate.{Nameplate}
 use Rattle.replies.specs.Judged.{judged_in}
 use Rattle.collector.specs.Collector.{item_of, on_data, collector_in}
 use Rattle.collector.specs.Whole.{in_turn, any_thirteen, readings_in, Rows, kept_by, filled_by, on_reply, whole_in, Filled}
-use Rattle.collector.proofs.Places.{narrow_at, run_length}
+use Rattle.collector.proofs.Places.{run_length}
 use Rattle.collector.proofs.Turns.{turns_same}
 use Rattle.directory.specs.declared.Span.{Span}
 
@@ -99,4 +101,4 @@ counted [] some = omega arith
 counted (it ∷ its) some = omega (arith, some 0 (omega arith), counted its (λ i below. some (suc i) (omega (arith, below))))
 
 pub few_items : (its : List Item) → T (every shaped its) → length its ≤ words_of its
-few_items its t = counted its (λ i below. (narrow_at its t i below).some)
+few_items its t = counted its (λ i below. (shape_narrow (get_or its i none) (every_at shaped its t i below)).some)

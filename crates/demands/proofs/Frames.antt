@@ -1,5 +1,5 @@
 -- All that is stated of the board, by its five outcomes and by what a heeded frame gives.
-use Rattle.std.specs.Prelude.{Err, None, Ok, Some}
+use Rattle.std.specs.Prelude.{Err, None, Ok, Some, Option, Result}
 use mathlib.Core.Path.{◌≡◌, refl, sym, ap, ◌∙◌}
 use mathlib.Core.Logic.{◌↔◌, ◌⊎◌, inl, inr}
 use mathlib.Core.Bool.{Bool, true, false, cond, false≢true}
@@ -27,7 +27,6 @@ use Rattle.meter.specs.declared.groups.Setup.{Setup}
 use Rattle.meter.specs.declared.Meter.{Meter}
 use Rattle.meter.specs.Groups.{code_of, with_standard, with_output}
 use Rattle.meter.specs.Meters.{meter_ok}
-use Rattle.board.specs.declared.Reply.{Reply}
 use Rattle.store.specs.Writes.{to_standard, stored_of, verdict_told}
 use Rattle.board.specs.Board.{Outcome, reply_told, board_in}
 use Rattle.demands.specs.Frames.{unheard, seen_by, writes, Heeds, Answers, SendsError, ReadErrs, WriteErrs, Quiet, Stores, Altered, Opened, FrameGives, FramesWhen, Obeys, Untouched, WindowOpened, RepliesSealed, BufferUnseen}
@@ -44,7 +43,7 @@ use Rattle.demands.proofs.Replies.Faults.{unknown, bad_read, bad_write}
 -- ---- answers are told apart by their numbers
 
 -- the numbers of a reply give it back
-pub reply_back : (a b : Reply) → reply_told a ≡ reply_told b → a ≡ b
+pub reply_back : (a b : Result (Option ℕ) Refusal) → reply_told a ≡ reply_told b → a ≡ b
 reply_back (Ok None) (Ok None) e = refl
 reply_back (Ok None) (Ok (Some n)) e = absurd (omega (arith, ap case_in e))
 reply_back (Ok None) (Err r) e = absurd (omega (arith, ap case_in e))
@@ -55,11 +54,11 @@ reply_back (Err r) (Ok None) e = absurd (omega (arith, ap case_in e))
 reply_back (Err r) (Ok (Some n)) e = absurd (omega (arith, ap case_in e))
 reply_back (Err r) (Err s) e = ap Err (one_reason_each.refusals r s (ap number_in e))
 
-abbrev said : Outcome → Reply
+abbrev said : Outcome → Result (Option ℕ) Refusal
 said o = o.handled.reply
 
 -- an outcome that is known has its answer
-abbrev heard_as_lem : {x y : Outcome} {r : Reply} → x ≡ y → said x ≡ r → said y ≡ r
+abbrev heard_as_lem : {x y : Outcome} {r : Result (Option ℕ) Refusal} → x ≡ y → said x ≡ r → said y ≡ r
 heard_as_lem e h = sym (ap said e) ∙ h
 
 -- and its numbers
@@ -67,8 +66,8 @@ abbrev told_as : {x y : Outcome} {numbers : List ℕ} → x ≡ y → reply_told
 told_as e h = sym (ap (λ (o : Outcome). reply_told (said o)) e) ∙ h
 
 -- two cases of other numbers
-apart {ℓ} : {A : Type ℓ} {x y : Reply} → (case_in (reply_told x) ≡ case_in (reply_told y) → ⊥) → x ≡ y → A
-apart n e = absurd (n (ap (λ (r : Reply). case_in (reply_told r)) e))
+apart {ℓ} : {A : Type ℓ} {x y : Result (Option ℕ) Refusal} → (case_in (reply_told x) ≡ case_in (reply_told y) → ⊥) → x ≡ y → A
+apart n e = absurd (n (ap (λ (r : Result (Option ℕ) Refusal). case_in (reply_told r)) e))
 
 -- a record after a frame: as it was, or with a legal write stored
 abbrev pub Kept : Meter → List ℕ → List ℕ → Meter → Type 0
@@ -255,7 +254,7 @@ module _ (v : View) (good : T (passes v)) where
     pub sent_reply : (k : ℕ) → said (board_in v m frame b) ≡ Ok (Some k) → Sent-bytes
     sent_reply k r =
         let s = sent (case v m frame b) k r in
-        record { bytes = s.bytes; next = s.next; gives = s.gives; reply = ap (λ (x : Reply). reply_in x (board_in v m frame b).buffer) r ∙ front k s }
+        record { bytes = s.bytes; next = s.next; gives = s.gives; reply = ap (λ (x : Result (Option ℕ) Refusal). reply_in x (board_in v m frame b).buffer) r ∙ front k s }
 
     altered : Case v m frame b → Kept m frame b (board_in v m frame b).handled.meter
     altered (out h e) = inl (ap (λ (o : Outcome). o.handled.meter) e)

@@ -1,5 +1,5 @@
 -- Every outcome is one of five, and what a heeded frame gives is one of five: all that is said of outcomes goes by these.
-use Rattle.std.specs.Prelude.{Err, Ok, Result}
+use Rattle.std.specs.Prelude.{Option, Some, None, Err, Ok, Result}
 use mathlib.Core.Path.{◌≡◌, refl, sym, ap, ◌∙◌}
 use mathlib.Core.Bool.{Bool, true, false, not}
 use mathlib.Core.List.{List}
@@ -47,9 +47,9 @@ module _ (v : View) where
     given_read r (Err code) e =
         let same : read_reply (seen_by v m frame) m.given.order (shown_of m) frame ≡ error_reply frame code = ap (read_bytes (seen_by v m frame) m.given.order (shown_of m) frame) e in
         record { bytes = read_reply (seen_by v m frame) m.given.order (shown_of m) frame; next = m; gives = misread code r e same refl; obeyed = obeys_read (seen_by v m frame) (not (to_second m.given frame)) m frame b r }
-    given_read r (Ok (span first count)) e =
-        let same : read_reply (seen_by v m frame) m.given.order (shown_of m) frame ≡ data_reply frame (items_sent m.given.order (shown_of m) (run_items (seen_by v m frame).seen first count)) = ap (read_bytes (seen_by v m frame) m.given.order (shown_of m) frame) e in
-        record { bytes = read_reply (seen_by v m frame) m.given.order (shown_of m) frame; next = m; gives = shows first count r e same refl; obeyed = obeys_read (seen_by v m frame) (not (to_second m.given frame)) m frame b r }
+    given_read r (Ok asked) e =
+        let same : read_reply (seen_by v m frame) m.given.order (shown_of m) frame ≡ data_reply frame (items_sent m.given.order (shown_of m) (run_items (seen_by v m frame).seen asked.first asked.count)) = ap (read_bytes (seen_by v m frame) m.given.order (shown_of m) frame) e in
+        record { bytes = read_reply (seen_by v m frame) m.given.order (shown_of m) frame; next = m; gives = shows asked.first asked.count r e same refl; obeyed = obeys_read (seen_by v m frame) (not (to_second m.given frame)) m frame b r }
 
     given_write : writes m frame ≡ true → (said : Option ErrorCode) → fault_of (written_of m frame) ≡ said → Given m frame b
     given_write w (Some code) e =

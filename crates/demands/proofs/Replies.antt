@@ -10,6 +10,7 @@ use lib.Dec.{T}
 use lib.ListN.{length, get_or, take, drop, get_or-append}
 use lib.Seq.{sets, drop_at, get_or-take, length-take-le}
 use borrow.Author.Tests.{eq-eqb, ne_eqb, le-ltb}
+use Rattle.refusal.specs.declared.Refusal.{Refusal}
 use Rattle.refusal.specs.declared.ErrorCode.{ErrorCode}
 use Rattle.refusal.specs.declared.ErrorCode.TheVariants.{Function}
 use Rattle.refusal.specs.Numbers.{error_number}

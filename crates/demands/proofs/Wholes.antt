@@ -1,5 +1,6 @@
 -- Each item that a poll asks for is read as its quantity, so none is refused and all stand in the rows; the cells of an energy are what the
 -- collector reads of it one by one.
+use Rattle.refusal.specs.declared.ErrorCode.{ErrorCode}
 use Rattle.std.specs.Prelude.{Err, Ok, Result}
 use mathlib.Core.Path.{◌≡◌, refl, sym, ap, ap₂, ◌∙◌}
 use mathlib.Core.Logic.{◌⊎◌, inl, inr}
@@ -45,7 +46,7 @@ use Rattle.demands.proofs.Demand3.{demand_3}
 
 -- how many items a read asks for
 abbrev counted : Result Span ErrorCode → ℕ
-counted (Ok (span first count)) = count
+counted (Ok asked) = asked.count
 counted (Err code) = 0
 
 module _ (v : View) (good : T (passes v)) where

@@ -1,6 +1,7 @@
 -- Board and collector together: what refusal 7 means by "answers with data" (paper 01, "Refusal numbers"), and the round trip from a
 -- meter's record through the bytes of its reply to the reading (demand 2).
-use Rattle.std.specs.Prelude.{◌≡◌, ◌↔◌, ◌⊎◌, ℕ, ◌≤◌, ◌<◌, true, false, List, [], length, take, Err, None, Ok, Some}
+use Rattle.refusal.specs.declared.Refusal.{Refusal}
+use Rattle.std.specs.Prelude.{◌≡◌, ◌↔◌, ◌⊎◌, ℕ, ◌≤◌, ◌<◌, true, false, List, [], length, take, Err, None, Ok, Some, Option, Result}
 use Rattle.refusal.specs.Numbers.{refused_by, error_by}
 use Rattle.ratio.specs.Ratios.{ratios_ok}
 use Rattle.directory.specs.Views.{View}
@@ -10,7 +11,6 @@ use Rattle.meter.specs.declared.given.Given.{Given}
 use Rattle.meter.specs.declared.Meter.{Meter}
 use Rattle.meter.specs.Meters.{meter_ok}
 use Rattle.registers.specs.Typed.{Typed}
-use Rattle.board.specs.declared.Reply.{Reply}
 use Rattle.board.specs.Board.{to_second, board_in}
 use Rattle.reading.specs.declared.Answer.TheVariants.{Reading}
 use Rattle.collector.specs.declared.Nameplate.{Nameplate}
@@ -20,7 +20,7 @@ use Rattle.demands.specs.Frames.{seen_by}
 use Rattle.demands.specs.Meaning.{meaning_of}
 
 -- the bytes of a reply, at the start of the buffer; none where there is no reply
-abbrev pub reply_in : Reply → List ℕ → List ℕ
+abbrev pub reply_in : Result (Option ℕ) Refusal → List ℕ → List ℕ
 reply_in (Ok None) buffer = []
 reply_in (Err reason) buffer = []
 reply_in (Ok (Some n)) buffer = take n buffer

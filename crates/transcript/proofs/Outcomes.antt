@@ -17,7 +17,6 @@ use Rattle.refusal.specs.declared.ErrorCode.{ErrorCode}
 use Rattle.refusal.specs.declared.ErrorCode.TheVariants.{Function}
 use Rattle.crc.proofs.Laws.{length_sealed}
 use Rattle.directory.specs.declared.Span.{Span}
-use Rattle.directory.specs.declared.Span.TheVariants.{Items, Error}
 use Rattle.directory.specs.Run.{run_items}
 use Rattle.directory.specs.Views.{View, passes}
 use Rattle.directory.specs.Tenant.{tenant_of}
@@ -154,11 +153,11 @@ module _ (m : Meter) (frame b : List ℕ) where
   read_brief : (v : View) → T (passes v) → v.most ≤ 120 → 4 ≤ length frame → 3 * length (read_reply v m.given.order (shown_of m) frame) ≤ 32 * (3 * length frame - 1)
   read_brief v good most h = by (read_in v frame) refl
     where
-      by : (span : Span) → read_in v frame ≡ span → 3 * length (read_bytes v m.given.order (shown_of m) frame span) ≤ 32 * (3 * length frame - 1)
-      by (Error code) e = omega arith
-      by (Items first count) e =
+      by : (judged : Result Span ErrorCode) → read_in v frame ≡ judged → 3 * length (read_bytes v m.given.order (shown_of m) frame judged) ≤ 32 * (3 * length frame - 1)
+      by (Err code) e = omega arith
+      by (Ok asked) e =
           let a = legal_read v good e in
-          let its = run_items v.seen first count in
+          let its = run_items v.seen asked.first asked.count in
           let bs = address_of frame ∷ function_of frame ∷ 2 * word_number frame ∷ items_sent m.given.order (shown_of m) its in
           omega (arith, length_sealed bs, length_items m.given.order (shown_of m) its, a.sends, a.most, a.long, most)
 
