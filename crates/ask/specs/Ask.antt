@@ -3,13 +3,12 @@ use Rattle.std.specs.Prelude.{◌≡◌, ℕ, ◌/◌, ◌%◌, List, [], ◌∷
 use Rattle.std.specs.Borrow.{Bor}
 use Rattle.crc.specs.Crc.{sealed}
 use Rattle.refusal.specs.declared.Refusal.{Refusal}
-use Rattle.board.specs.declared.Reply.TheVariants.{Silent, Sent, Refused}
 use Rattle.board.specs.Board.{Outcome}
 use Rattle.reading.specs.declared.Quantity.{Quantity}
 use Rattle.reading.specs.declared.Answer.{Answer}
 use Rattle.reading.specs.declared.Answer.TheVariants as answer
-use Rattle.ask.specs.declared.exchange.Unread.{Unread}
-use Rattle.ask.specs.declared.exchange.Unread.TheVariants as unread
+use Rattle.replies.specs.declared.Unread.{Unread}
+use Rattle.replies.specs.declared.Unread.TheVariants as unread
 
 -- a read of some words
 abbrev pub read_of : ℕ → ℕ → ℕ → List ℕ
@@ -23,9 +22,9 @@ write_of address word code =
 
 -- the bytes of a board's reply, its silence, or its refusal
 abbrev pub HeardOf : Outcome → Result (Option (Bor (List ℕ))) Refusal → Type 0
-HeardOf o (Ok (Some reply)) = (o.handled.reply ≡ Sent (length reply.now)) × (reply.now ≡ take (length reply.now) o.buffer)
-HeardOf o (Ok None) = o.handled.reply ≡ Silent
-HeardOf o (Err reason) = o.handled.reply ≡ Refused reason
+HeardOf o (Ok (Some reply)) = (o.handled.reply ≡ Ok (Some (length reply.now))) × (reply.now ≡ take (length reply.now) o.buffer)
+HeardOf o (Ok None) = o.handled.reply ≡ Ok None
+HeardOf o (Err reason) = o.handled.reply ≡ Err reason
 
 -- the collector's answer, of what a program takes it as
 abbrev pub answer_of : Result Quantity Unread → Answer

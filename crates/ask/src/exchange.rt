@@ -3,7 +3,7 @@ ghost use Rattle.std.specs.Prelude.{◌≡◌};
 ghost use Rattle.collector.specs.Collector.{collector_of};
 ghost use Rattle.ask.specs.Ask.{answer_of};
 
-use collector::{Answer, ErrorCode, Nameplate, Quantity, Refusal, Whole};
+use collector::{Answer, Nameplate, Quantity, Unread};
 use std::fmt::{self, Display};
 
 // A request, the reply to it, and what the collector is told of the meter.
@@ -12,22 +12,6 @@ pub struct Exchange<'a> {
     pub request: &'a [u8],
     pub reply: &'a [u8],
     pub plate: Nameplate,
-}
-
-// Why an item is not read: the meter's error code, or a refusal.
-#[derive(Clone, Copy)]
-pub enum Unread {
-    Error(ErrorCode),
-    Refused(Refusal),
-}
-
-impl Display for Unread {
-    fn fmt<W: fmt::Write>(&self, f: &mut fmt::Formatter<W>) -> fmt::Result {
-        match self {
-            Unread::Error(code) => write!(f, "{code}"),
-            Unread::Refused(reason) => write!(f, "{reason}"),
-        }
-    }
 }
 
 impl<'a> Exchange<'a> {
@@ -45,14 +29,13 @@ impl<'a> Exchange<'a> {
 
 // How many items a whole reply has, or why it is not read.
 #[derive(Clone, Copy)]
-pub struct Items(pub Whole);
+pub struct Items(pub Result<usize, Unread>);
 
 impl Display for Items {
     fn fmt<W: fmt::Write>(&self, f: &mut fmt::Formatter<W>) -> fmt::Result {
         match self.0 {
-            Whole::Items(n) => write!(f, "items {n}"),
-            Whole::Error(code) => write!(f, "{code}"),
-            Whole::Refused(reason) => write!(f, "{reason}"),
+            Ok(n) => write!(f, "items {n}"),
+            Err(why) => write!(f, "{why}"),
         }
     }
 }

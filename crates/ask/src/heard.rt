@@ -4,7 +4,7 @@ ghost use Rattle.board.specs.Board.{board_of};
 ghost use Rattle.ask.specs.Ask.{HeardOf};
 
 use crate::{Frame, REPLY_ROOM};
-use board::{Meter, Refusal, Reply};
+use board::{Meter, Refusal};
 use std::fmt::{self, Display};
 
 // The reply, none where the meter is silent, or why the frame is refused; and the meter after it.
@@ -32,9 +32,9 @@ pub fn hear<'a>(meter: Meter, frame: &[u8], buffer: &'a mut [u8; REPLY_ROOM]) ->
 {
     let handled = board::handle(meter, frame, buffer);
     let reply = match handled.reply {
-        Reply::Silent => Ok(None),
-        Reply::Sent(n) => Ok(Some(&buffer[..n])),
-        Reply::Refused(reason) => Err(reason),
+        Ok(None) => Ok(None),
+        Ok(Some(n)) => Ok(Some(&buffer[..n])),
+        Err(reason) => Err(reason),
     };
     Heard {
         reply,

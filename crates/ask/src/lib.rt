@@ -7,9 +7,9 @@ mod heard;
 ghost use Rattle.std.specs.Prelude.{◌≡◌};
 ghost use Rattle.ask.specs.Ask.{read_of, write_of};
 
-use board::{Answer, Given, Meter, Order, Ratios};
+use board::{Given, Meter, Order, Ratios, Refusal};
 use collector::Nameplate;
-pub use exchange::{Exchange, Items, Unread};
+pub use exchange::{Exchange, Items};
 pub use heard::{Heard, hear};
 use say::Bytes;
 use std::fmt::{self, Display};
@@ -53,13 +53,13 @@ impl<'a> Display for Frame<'a> {
 
 // Whether a meter takes what it is given: a record, or a sample.
 #[derive(Clone, Copy)]
-pub struct Taken(pub Answer);
+pub struct Taken(pub Result<(), Refusal>);
 
 impl Display for Taken {
     fn fmt<W: fmt::Write>(&self, f: &mut fmt::Formatter<W>) -> fmt::Result {
         match self.0 {
-            Answer::Accepted => f.write_str("accepted"),
-            Answer::Refused(reason) => write!(f, "{reason}"),
+            Ok(()) => f.write_str("accepted"),
+            Err(reason) => write!(f, "{reason}"),
         }
     }
 }

@@ -3,7 +3,7 @@ ghost use Rattle.std.specs.Prelude.{◌≤◌, length, IfOk, IfSome};
 
 use ask::{Exchange, REPLY_ROOM};
 use board::Meter;
-use collector::{Joined, Nameplate, Quantity, Ratios};
+use collector::{Nameplate, Quantity, Ratios, Refusal, WattHours};
 use say::Bytes;
 use std::io::{self, Stdout};
 
@@ -114,10 +114,10 @@ impl Feed {
         self.meter.given.ratios
     }
 
-    fn load(self, joined: Joined, step: u64) -> io::Result<()> {
+    fn load(self, joined: Result<WattHours, Refusal>, step: u64) -> io::Result<()> {
         match joined {
-            Joined::Energy(wh) => self.bounds(wh.0, step),
-            Joined::Refused(reason) => println!(self.out; "{reason}"),
+            Ok(wh) => self.bounds(wh.0, step),
+            Err(reason) => println!(self.out; "{reason}"),
         }
     }
 

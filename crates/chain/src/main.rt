@@ -7,7 +7,7 @@ mod feed;
 
 ghost use Rattle.std.specs.Prelude.{◌≤◌, IfOk};
 
-use board::{Answer, Answered, Given, Meter, Powers, Sample};
+use board::{Answered, Given, Meter, Powers, Sample};
 use collector::Ratios;
 use feed::Feed;
 use std::io::{self, Stdout};
@@ -33,7 +33,7 @@ fn main(rt: HostRuntime) -> io::Result<()> {
 fn from_samples(out: Stdout) -> io::Result<()> {
     let ratios = Ratios { kta: 40, ktv: 10 };
     let new = made(ratios);
-    if let Answer::Refused(reason) = new.answer {
+    if let Err(reason) = new.answer {
         return println!(out; "{reason}");
     }
     println!(out;
@@ -79,7 +79,7 @@ fn six_minutes(out: Stdout, new: Meter) -> io::Result<Sampled>
     let mut meter = new;
     for accepted in 0..SECONDS {
         let answered = meter.after(sample);
-        if let Answer::Refused(reason) = answered.answer {
+        if let Err(reason) = answered.answer {
             println!(out; "{reason}")?;
             return Ok(Sampled { meter, accepted });
         }

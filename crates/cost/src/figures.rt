@@ -2,7 +2,6 @@
 use ask::GIVEN;
 use meter::Meter;
 use meter::samples::{Powers, Sample};
-use own::table::TABLE;
 
 const SAMPLE_TURNS: u32 = 1000;
 
@@ -41,13 +40,14 @@ fn after(m: Meter, sample: Sample) -> Meter {
 }
 
 fn shown(m: Meter) -> u32 {
-    if !m.within() {
+    let Some(sound) = m.sound() else {
         return 0;
-    }
+    };
+    let directory = own::directory();
     let mut shows = 0;
     for k in 0..SHOWN_TURNS {
-        let it = directory::item_at(&TABLE, k % own::ITEMS);
-        shows ^= registers::shown(m, it.quantity);
+        let it = directory.item(k % own::ITEMS);
+        shows ^= registers::shown(sound, it.quantity);
     }
     shows
 }

@@ -1,7 +1,7 @@
 // A collector that reads the items of a meter's reply to the frame on standard input, one by one or by one call, again and again.
 use crate::figures;
 use ask::{Exchange, PLATE, REPLY_ROOM};
-use collector::{Answer, Quantity, Whole};
+use collector::{Answer, Quantity, Unread};
 
 const READ_TURNS: u32 = 1000;
 
@@ -46,11 +46,11 @@ pub fn wholly(exchange: Exchange<'_>) -> u64 {
     sum | values[1]
 }
 
-pub fn items(whole: Whole) -> u64 {
+pub fn items(whole: Result<usize, Unread>) -> u64 {
     match whole {
-        Whole::Items(n) => n as u64,
-        Whole::Error(code) => u64::from(code.number()),
-        Whole::Refused(reason) => u64::from(reason.number()),
+        Ok(n) => n as u64,
+        Err(Unread::Error(code)) => u64::from(code.number()),
+        Err(Unread::Refused(reason)) => u64::from(reason.number()),
     }
 }
 

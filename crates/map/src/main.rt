@@ -6,7 +6,6 @@ mod units;
 
 use directory::Item;
 use names::Name;
-use own::table::TABLE;
 use std::io::{self, Stdout};
 
 fn main(rt: HostRuntime) -> io::Result<()> {
@@ -22,10 +21,10 @@ fn main(rt: HostRuntime) -> io::Result<()> {
 
 // The addresses of a block have their upper byte in common.
 fn rows(out: Stdout) -> io::Result<()> {
-    let table = &TABLE;
+    let directory = own::directory();
     let mut block = None;
     for i in 0..own::ITEMS {
-        let it = directory::item_at(table, i);
+        let it = directory.item(i);
         let upper = it.start / 256;
         if block != Some(upper) {
             heading(out, upper)?;

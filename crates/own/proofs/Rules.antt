@@ -26,7 +26,7 @@ own_good = tt
 pub own_ruled : T (ruled directory)
 own_ruled = passes_ruled own own_good
 
-directory_count : length directory ≡ 148
+pub directory_count : length directory ≡ 148
 unfolding directory
 directory_count = refl
 

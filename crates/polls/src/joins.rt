@@ -1,6 +1,6 @@
 // Energies joined from their parts, and what a join refuses.
 use ask::DIRECT;
-use collector::{Count, Joined, Ratios, Refusal, WattHours};
+use collector::{Count, Ratios, Refusal, WattHours};
 use say::Told;
 use std::io::{self, Stdout};
 
@@ -49,9 +49,6 @@ fn energy(out: Stdout, energy: WattHours) -> io::Result<()> {
 }
 
 // What a join comes to, in Wh.
-fn told(joined: Joined) -> Told<u64, Refusal> {
-    match joined {
-        Joined::Energy(energy) => Told(Ok(energy.0)),
-        Joined::Refused(reason) => Told(Err(reason)),
-    }
+fn told(joined: Result<WattHours, Refusal>) -> Told<u64, Refusal> {
+    Told(joined.map(|energy| energy.0))
 }

@@ -1,7 +1,7 @@
 // Meters with a second address, without one, and out of limits by one.
 use crate::frames;
 use ask::{GIVEN, Taken};
-use board::{Answered, Given, Meter, Powers, Ratios, Reply, Sample, Setup};
+use board::{Answered, Given, Meter, Powers, Ratios, Sample, Setup};
 use std::io::{self, Stdout};
 
 // A new meter of these addresses.
@@ -62,7 +62,7 @@ pub fn refused(out: Stdout, m: Meter) -> io::Result<()> {
     )?;
     let good = ask::read(frames::SECOND, 0x0301, 2);
     let mut buffer = [0u8; 255];
-    if let Reply::Refused(reason) = board::handle(m, &good, &mut buffer).reply {
+    if let Err(reason) = board::handle(m, &good, &mut buffer).reply {
         println!(out; "a buffer of 255 bytes, {reason}")?;
     }
     Ok(())

@@ -1,6 +1,6 @@
 // The meter's examples: samples, what its registers then show, and what it refuses.
 use ask::{DIRECT, GIVEN, REPLY_ROOM, Taken};
-use board::{Factor, Given, Meter, Powers, Ratios, Reply, Sample};
+use board::{Factor, Given, Meter, Powers, Ratios, Sample};
 use directory::quantity::*;
 use std::io::{self, Stdout};
 
@@ -102,11 +102,11 @@ fn energy(out: Stdout, wh: u64) -> io::Result<()> {
 
 // What is shown of some quantities: the 32 bits of each, of which a W sends the lower 16.
 fn show(out: Stdout, m: Meter, quantities: &[u16]) -> io::Result<()> {
-    if !m.within() {
+    let Some(sound) = m.sound() else {
         return Ok(());
-    }
+    };
     for quantity in quantities {
-        print!(out; " {:08x}", registers::shown(m, *quantity))?;
+        print!(out; " {:08x}", registers::shown(sound, *quantity))?;
     }
     println!(out)
 }
@@ -174,8 +174,8 @@ fn of_a_frame(out: Stdout) -> io::Result<()> {
 fn handled(out: Stdout, name: &str, m: Meter, buffer: &mut [u8]) -> io::Result<()> {
     print!(out; "{name}: ")?;
     match board::handle(m, &[1, 3], buffer).reply {
-        Reply::Silent => println!(out; "silent"),
-        Reply::Sent(n) => println!(out; "bytes sent {n}"),
-        Reply::Refused(reason) => println!(out; "{reason}"),
+        Ok(None) => println!(out; "silent"),
+        Ok(Some(n)) => println!(out; "bytes sent {n}"),
+        Err(reason) => println!(out; "{reason}"),
     }
 }

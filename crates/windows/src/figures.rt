@@ -1,7 +1,7 @@
 // A meter's seconds, and what the collector reads of its average, peak and minutes.
 use crate::frames;
 use ask::{Exchange, GIVEN, PLATE, REPLY_ROOM, Unread};
-use board::{Answer, Given, Meter, Powers, Ratios, Sample};
+use board::{Given, Meter, Powers, Ratios, Sample};
 use collector::{Nameplate, Quantity};
 use say::Told;
 use std::fmt::{self, Display};
@@ -37,7 +37,7 @@ fn run(out: Stdout, m: Meter, seconds: u32, l1: i64) -> io::Result<Meter> {
         };
         let answered = meter.after(Sample { p, ..m.latest });
         meter = answered.meter;
-        if let Answer::Refused(reason) = answered.answer {
+        if let Err(reason) = answered.answer {
             println!(out; "  a sample, {reason}")?;
         }
     }
