@@ -1,8 +1,8 @@
 // A meter's seconds, and what the collector reads of its average, peak and minutes.
 use crate::frames;
-use ask::{Exchange, GIVEN, PLATE, REPLY_ROOM, Unread};
+use ask::{Exchange, GIVEN, PLATE, REPLY_ROOM};
 use board::{Given, Meter, Powers, Ratios, Sample};
-use collector::{Nameplate, Quantity};
+use collector::{Nameplate, Quantity, Unread};
 use say::Told;
 use std::fmt::{self, Display};
 use std::io::{self, Stdout};
