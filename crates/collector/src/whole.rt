@@ -13,7 +13,8 @@ use reading::Answer;
 use refusal::Refusal;
 use replies::Unread;
 
-// The words that the longest reply has room for, and so the most items.
+// The words that the longest reply has room for, and so the most items. Values and kinds stay two rows of fixed length: the request names two,
+// and nothing here allocates.
 const WORDS_MOST: usize = 125;
 
 // Reads every item of a reply, and answers how many there are: from cell 0 on, `values` gets what each reads as (`Quantity::cell`) and

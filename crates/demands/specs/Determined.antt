@@ -26,8 +26,10 @@ pub record Determined : Type 0 where
       (m : Meter) (frame b : List ℕ) (x y : Handled) (p q : List ℕ) → Allowed (board_of m frame b) x p →
       Allowed (board_of m frame b) y q → (x ≡ y) × (p ≡ q)
   pub put : (before : List ℕ) (n : ℕ) (x y : Bool) (p q : List ℕ) → Put before n x p → Put before n y q → (x ≡ y) × (p ≡ q)
-  pub line : (line before : List ℕ) (x y : Option ℕ) (p q : List ℕ) → FrameRead line before x p → FrameRead line before y q → (x ≡ y) × (p ≡ q)
-  pub text : (frame before : List ℕ) (x y : Option ℕ) (p q : List ℕ) → TextPut frame before x p → TextPut frame before y q → (x ≡ y) × (p ≡ q)
+  pub line :
+      (line before : List ℕ) (x y : Option ℕ) (p q : List ℕ) → FrameRead line before x p → FrameRead line before y q → (x ≡ y) × (p ≡ q)
+  pub text :
+      (frame before : List ℕ) (x y : Option ℕ) (p q : List ℕ) → TextPut frame before x p → TextPut frame before y q → (x ≡ y) × (p ≡ q)
   pub transcript :
       (input before : List ℕ) (x y : Option ℕ) (p q : List ℕ) → Transcribed input before x p → Transcribed input before y q →
       (x ≡ y) × (p ≡ q)

@@ -11,7 +11,7 @@ ghost use Rattle.modbus.specs.Replies.{error_reply, echo_reply};
 use directory::{Directory, Span};
 use refusal::ErrorCode;
 
-// The two functions that a meter carries out.
+// The two functions that a meter carries out. They stay numbers: any byte may stand in their place, and each other one is an error.
 pub const READ_HOLDING_REGISTERS: u8 = 0x03;
 
 pub const WRITE_MULTIPLE_REGISTERS: u8 = 0x10;

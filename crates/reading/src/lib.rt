@@ -161,7 +161,7 @@ pub fn of(t: u32, it: Item, value: u32) -> Answer
     }
 }
 
-// A reading, unless its value is one that no meter shows.
+// A reading, unless its value is one that no meter shows. Stays a test handed in: it is all that the nine kinds which may be refused share.
 fn unless(impossible: bool, quantity: Quantity) -> Answer
     ensures { result ≡ cond impossible (Refused ValueImpossible) (Reading quantity) }
 {

@@ -4,7 +4,7 @@
 ghost use Rattle.std.specs.Prelude.{◌≡◌};
 ghost use Rattle.setup.specs.Ranges.{word_ok, group_ok};
 
-// Whether the setup word at an address may hold a value.
+// Whether the setup word at an address may hold a value. Both stay numbers, as the line sends them.
 #[tactic(auto, unfolding(crate::specs::Ranges::word_ok))]
 pub fn word_ok(address: u16, value: u16) -> bool
     ensures { result ≡ word_ok address value }

@@ -1,5 +1,5 @@
-// A signed number as a magnitude and whether it is negative. All other crates use this form; only the 3-phase sum adds
-// signed numbers.
+// A signed number as a magnitude and whether it is negative: what is stated and proved of signed values goes by these two. All other
+// crates use this form; only the 3-phase sum adds signed numbers.
 #![tactic(auto)]
 
 ghost use Rattle.std.specs.Prelude.{◌≡◌};

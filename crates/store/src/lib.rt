@@ -40,7 +40,8 @@ pub fn write(m: Meter, frame: &[u8]) -> Result<Meter, ErrorCode>
     Ok(m.set_up(changed))
 }
 
-// The words of a write to a group of N words.
+// The words of a write to a group of N words. Their range is tested by the caller, since the check has no proof of a function parameter that
+// takes an array of N.
 fn group<const N: usize>(frame: &[u8]) -> Result<[u16; N], ErrorCode>
     requires { write_shaped frame.now ≡ true }
     ensures { result ≡ cond (eqb (word_number frame.now) N) (Ok (write_values frame.now)) (Err Data) }
