@@ -5,9 +5,9 @@
 
 pub mod quantity;
 
-ghost use Rattle.std.specs.Prelude.{◌≡◌, ◌+◌, ◌*◌, ◌≤◌, ◌<◌, true, length, get_or};
+ghost use Rattle.std.specs.Prelude.{◌≡◌, ◌+◌, ◌*◌, ◌≤◌, ◌<◌, true, length, take, drop, get_or, T};
 ghost use Rattle.directory.specs.Item.{items, none, is_b};
-ghost use Rattle.directory.specs.Order.{shaped, meant};
+ghost use Rattle.directory.specs.Order.{ruled, shaped, meant};
 ghost use Rattle.directory.specs.Run.{find_in, run_in, run_items};
 ghost use Rattle.directory.specs.Views.{view_of, Lent, Asked};
 
@@ -95,57 +95,11 @@ impl<'a> Directory<'a> {
         item_at(self.numbers, index)
     }
 
-    // The run of items for `words` words from the address `start`, or what is wrong with it. Only the first of the run is searched for:
-    // the table ascends, so the item that starts where another ends can only be the next one.
-    // Stays a `while` over the words that are due: a `for` over the items would ask twice whether any are, in it and behind it.
+    // The run of items for `words` words from the address `start`, or what is wrong with it.
     pub fn run(&self, start: u16, words: u16) -> Result<Span, ErrorCode>
         ensures { result ≡ run_in self.now.seen start words }
     {
-        let first = self.find(start).ok_or(ErrorCode::Address)?;
-        let mut i = first;
-        let mut next = u32::from(start);
-        let mut due = words;
-        while 0 < due {
-            if self.seen <= i {
-                return Err(ErrorCode::Address);
-            }
-            let it = item_at(self.numbers, i);
-            if u32::from(it.start) != next {
-                return Err(ErrorCode::Address);
-            }
-            if due < it.words {
-                return Err(ErrorCode::Data);
-            }
-            next += u32::from(it.fills);
-            due -= it.words;
-            i += 1;
-        }
-        Ok(Span {
-            first,
-            count: i - first,
-        })
-    }
-
-    // The index of the item that starts at an address. The table ascends, so a search by halves finds it.
-    // Stays a search by hand: the library's take a slice of keys, and the flat table of numbers that the paper names has none.
-    fn find(&self, address: u16) -> Option<usize>
-        ensures { result ≡ find_in self.now.seen address 0 }
-    {
-        let mut low: usize = 0;
-        let mut high: usize = self.seen;
-        while low < high {
-            let middle = low + (high - low) / 2;
-            let it = item_at(self.numbers, middle);
-            if it.start == address {
-                return Some(middle);
-            }
-            if it.start < address {
-                low = middle + 1;
-            } else {
-                high = middle;
-            }
-        }
-        None
+        run_in(self.numbers, self.seen, start, words)
     }
 
     // The items of a span.
@@ -153,11 +107,8 @@ impl<'a> Directory<'a> {
         requires { span.first + span.count ≤ length self.now.seen }
         ensures { result ≡ run_items self.now.seen span.first span.count }
     {
-        let numbers = self.numbers;
-        let from = NUMBERS_PER_ITEM * span.first;
-        let to = from + NUMBERS_PER_ITEM * span.count;
         Items {
-            numbers: &numbers[from..to],
+            numbers: part(self.numbers, span.first, span.count),
         }
     }
 }
@@ -200,8 +151,75 @@ impl<'a> Items<'a> {
     }
 }
 
-// The item with index i of a flat table.
-fn item_at(table: &[u16], i: usize) -> Item
+// What follows stands beside the methods, since it asks only what it needs of a table: less than the tests of a directory.
+
+// The run of items for `words` words from the address `start`, among the first `seen` items of a table, or what is wrong with it.
+// Only the first of the run is searched for: the table ascends, so the item that starts where another ends can only be the next one.
+// Stays a `while` over the words that are due: a `for` over the items would ask twice whether any are, in it and behind it.
+pub fn run_in(table: &[u16], seen: usize, start: u16, words: u16) -> Result<Span, ErrorCode>
+    requires { (4 * seen ≤ length table.now) × T (ruled (take seen (items table.now))) }
+    ensures { result ≡ run_in (take seen (items table.now)) start words }
+{
+    let first = find_in(table, seen, start).ok_or(ErrorCode::Address)?;
+    let mut i = first;
+    let mut next = u32::from(start);
+    let mut due = words;
+    while 0 < due {
+        if seen <= i {
+            return Err(ErrorCode::Address);
+        }
+        let it = item_at(table, i);
+        if u32::from(it.start) != next {
+            return Err(ErrorCode::Address);
+        }
+        if due < it.words {
+            return Err(ErrorCode::Data);
+        }
+        next += u32::from(it.fills);
+        due -= it.words;
+        i += 1;
+    }
+    Ok(Span {
+        first,
+        count: i - first,
+    })
+}
+
+// The index of the item that starts at an address. The table ascends, so a search by halves finds it.
+// Stays a search by hand: the library's take a slice of keys, and the flat table of numbers that the paper names has none.
+fn find_in(table: &[u16], seen: usize, address: u16) -> Option<usize>
+    requires { (4 * seen ≤ length table.now) × T (ruled (take seen (items table.now))) }
+    ensures { result ≡ find_in (take seen (items table.now)) address 0 }
+{
+    let mut low: usize = 0;
+    let mut high: usize = seen;
+    while low < high {
+        let middle = low + (high - low) / 2;
+        let it = item_at(table, middle);
+        if it.start == address {
+            return Some(middle);
+        }
+        if it.start < address {
+            low = middle + 1;
+        } else {
+            high = middle;
+        }
+    }
+    None
+}
+
+// The part of a table that holds a run of its items.
+pub fn part(table: &[u16], first: usize, count: usize) -> &[u16]
+    requires { 4 * (first + count) ≤ length table.now }
+    ensures { result.now ≡ take (4 * count) (drop (4 * first) table.now) }
+{
+    let from = NUMBERS_PER_ITEM * first;
+    let to = from + NUMBERS_PER_ITEM * count;
+    &table[from..to]
+}
+
+// The item with index i.
+pub fn item_at(table: &[u16], i: usize) -> Item
     requires { 4 * i + 4 ≤ length table.now }
     ensures { result ≡ get_or (items table.now) i none }
 {

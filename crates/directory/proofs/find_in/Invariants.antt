@@ -3,10 +3,10 @@ use lib.ListN.{take}
 use Rattle.std.proofs.Common.{◌-◌, ◌≤◌}
 use Rattle.directory.specs.Item.{items}
 use Rattle.directory.proofs.Finds.{Window}
-use Rattle.directory.proofs.Directory.find.Given as goal
+use Rattle.directory.proofs.find_in.Given as goal
 
 abbrev pub invariant-loop-low : goal.invariant-loop-low
-invariant-loop-low l = (l.high ≤ l.self-inside.seen) × Window (take l.self-inside.seen (items l.self-inside.numbers.now)) l.address l.low l.high
+invariant-loop-low l = (l.high ≤ l.seen) × Window (take l.seen (items l.table)) l.address l.low l.high
 
 abbrev pub decreases-loop-low : goal.decreases-loop-low
 decreases-loop-low l = l.high - l.low

@@ -4,13 +4,13 @@ use Rattle.std.proofs.Common.{◌≡◌, ◌-◌, ◌≤◌}
 use Rattle.directory.specs.Item.{items}
 use Rattle.directory.specs.Run.{run_from, run_in}
 use Rattle.directory.proofs.Runs.{Stands}
-use Rattle.directory.proofs.Directory.run.Given as goal
+use Rattle.directory.proofs.run_in.Given as goal
 
 abbrev pub invariant-loop-due : goal.invariant-loop-due
 invariant-loop-due l = (l.first ≤ l.i) ×
-    (l.i ≤ l.self-inside.seen) ×
-    (run_in (take l.self-inside.seen (items l.self-inside.numbers.now)) l.start l.words ≡ run_from (take l.self-inside.seen (items l.self-inside.numbers.now)) l.first (l.i - l.first) l.next l.due) ×
-    Stands (take l.self-inside.seen (items l.self-inside.numbers.now)) l.i l.next
+    (l.i ≤ l.seen) ×
+    (run_in (take l.seen (items l.table)) l.start l.words ≡ run_from (take l.seen (items l.table)) l.first (l.i - l.first) l.next l.due) ×
+    Stands (take l.seen (items l.table)) l.i l.next
 
 abbrev pub decreases-loop-due : goal.decreases-loop-due
-decreases-loop-due l = l.self-inside.seen - l.i
+decreases-loop-due l = l.seen - l.i
