@@ -1,7 +1,7 @@
 -- A digit in capitals is read back, on either side of the test that `capital` makes, so a byte's pair is a hex pair of that byte.
 use mathlib.Core.Path.{◌≡◌, refl}
 use mathlib.Core.Bool.{Bool, true, false, cond}
-use Prim.Native.Nat.{ℕ, ◌+◌, ◌-◌, ◌*◌, ◌/◌, ◌%◌, ◌<◌}
+use Prim.Native.Nat.{ℕ, ◌+◌, ◌-◌, ◌/◌, ◌%◌, ◌<◌}
 use native.Mathlib.Omega.{arith}
 use Rattle.std.specs.Prelude.{Some}
 use lib.Dec.{ltb}
@@ -32,5 +32,5 @@ module _ (b : ℕ) (h : b < 256) where
   pub pair_good : pair_ok (capital (b / 16)) (capital (b % 16)) ≡ true
   pair_good = rw (upper_back, lower_back) refl
 
-  pub pair_same : byte_of (capital (b / 16)) (capital (b % 16)) ≡ Some b
-  pair_same = let e : 16 * (b / 16) + b % 16 ≡ b = omega arith in rw (upper_back, lower_back, e)
+  pub pair_same : byte_of (capital (b / 16)) (capital (b % 16)) ≡ b
+  pair_same = rw (upper_back, lower_back) (omega arith)

@@ -1,5 +1,5 @@
 -- Paper 01, the program `bench`: bytes as hex pairs, read in either case and written in capitals.
-use Rattle.std.specs.Prelude.{ℕ, ◌+◌, ◌-◌, ◌*◌, ◌/◌, ◌%◌, Bool, ◌&&◌, cond, List, [], ◌∷◌, leb, ltb, Option, Some, None, is_some}
+use Rattle.std.specs.Prelude.{ℕ, ◌+◌, ◌-◌, ◌*◌, ◌/◌, ◌%◌, Bool, ◌&&◌, cond, List, [], ◌∷◌, leb, ltb, Option, Some, None, is_some, unwrap_or}
 
 -- the value of a hex digit, either case; none of another character
 abbrev pub digit_of : ℕ → Option ℕ
@@ -13,15 +13,9 @@ digit_of c =
 abbrev pub pair_ok : ℕ → ℕ → Bool
 pair_ok upper lower = is_some (digit_of upper) && is_some (digit_of lower)
 
--- two digits as a number: the upper one counts sixteens
-abbrev pub sixteens : Option ℕ → Option ℕ → Option ℕ
-sixteens (Some upper) (Some lower) = Some (16 * upper + lower)
-sixteens (Some upper) None = None
-sixteens None lower = None
-
--- their byte
-abbrev pub byte_of : ℕ → ℕ → Option ℕ
-byte_of upper lower = sixteens (digit_of upper) (digit_of lower)
+-- their byte; a character that is no digit counts as 0
+abbrev pub byte_of : ℕ → ℕ → ℕ
+byte_of upper lower = 16 * unwrap_or (digit_of upper) 0 + unwrap_or (digit_of lower) 0
 
 -- a hex digit, in capitals
 abbrev pub capital : ℕ → ℕ

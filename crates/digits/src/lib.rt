@@ -1,7 +1,8 @@
-// Hex digits, and the pairs of them that stand for bytes (paper 01, the program `bench`).
+// Hex digits, and the pairs of them that stand for bytes (paper 01, the program `bench`). The callers of `byte_of` and `put_digits`
+// test first, so these do not test again.
 #![tactic(auto)]
 
-ghost use Rattle.std.specs.Prelude.{◌≡◌, ◌+◌, ◌≤◌, ◌<◌, length};
+ghost use Rattle.std.specs.Prelude.{◌≡◌, ◌+◌, ◌≤◌, ◌<◌, true, length};
 ghost use Rattle.std.proofs.lemmas.List.Edits.{sets};
 ghost use Rattle.digits.specs.Hex.{digit_of, pair_ok, byte_of, capital, pair_of};
 
@@ -24,14 +25,12 @@ pub fn pair_ok(upper: u8, lower: u8) -> bool
     digit(upper).is_some() && digit(lower).is_some()
 }
 
-// The byte that two hex digits stand for. A match and no `?`: with it a line cost 52 instructions a byte, and 44 so.
-pub fn byte_of(upper: u8, lower: u8) -> Option<u8>
+// The byte that two hex digits stand for.
+pub fn byte_of(upper: u8, lower: u8) -> u8
+    requires { pair_ok upper lower ≡ true }
     ensures { result ≡ byte_of upper lower }
 {
-    match (digit(upper), digit(lower)) {
-        (Some(upper), Some(lower)) => Some(16 * upper + lower),
-        _ => None,
-    }
+    16 * digit(upper).unwrap() + digit(lower).unwrap()
 }
 
 // Puts a byte at a place of the buffer, as two hex digits in capitals. Stays two stores: with copy_from_slice a text cost

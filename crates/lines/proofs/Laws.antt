@@ -7,7 +7,6 @@ use native.Mathlib.Omega.{arith}
 use lib.Dec.{eqb}
 use lib.ListN.{length, get_or, drop, drop_of_length-le}
 use lib.Seq.{drop-cons, drop-drop}
-use Rattle.std.specs.Prelude.{unwrap_or}
 use Rattle.digits.specs.Hex.{pair_ok, byte_of}
 use Rattle.lines.specs.Lines.{pairs_ok, bytes_of, line_ok}
 
@@ -54,14 +53,15 @@ bytes_length (upper ∷ lower ∷ []) = refl
 bytes_length (upper ∷ lower ∷ space ∷ rest) = omega (arith, bytes_length rest)
 
 -- the first pair, and the line behind it
-first_ok : (upper lower : ℕ) (rest : List ℕ) → line_ok (upper ∷ lower ∷ rest) ≡ true → line_ok (drop 1 rest) ≡ true
+first_ok : (upper lower : ℕ) (rest : List ℕ) → line_ok (upper ∷ lower ∷ rest) ≡ true → (pair_ok upper lower ≡ true) × (line_ok (drop 1 rest) ≡ true)
 unfolding pairs_ok
-first_ok upper lower [] t = refl
+first_ok upper lower [] t = (t, refl)
 first_ok upper lower (space ∷ rest) t =
     let e = (and-eq-true_iff (pair_ok upper lower && eqb space 0x20) (pairs_ok rest)).0 t in
-    pairs_line rest e.1
+    let p = (and-eq-true_iff (pair_ok upper lower) (eqb space 0x20)).0 e.0 in
+    (p.0, pairs_line rest e.1)
 
-first_bytes : (upper lower : ℕ) (rest : List ℕ) → bytes_of (upper ∷ lower ∷ rest) ≡ unwrap_or (byte_of upper lower) 0 ∷ bytes_of (drop 1 rest)
+first_bytes : (upper lower : ℕ) (rest : List ℕ) → bytes_of (upper ∷ lower ∷ rest) ≡ byte_of upper lower ∷ bytes_of (drop 1 rest)
 unfolding bytes_of
 first_bytes upper lower [] = refl
 first_bytes upper lower (space ∷ rest) = refl
@@ -73,8 +73,8 @@ module _ (line : List ℕ) (i : ℕ) (inside : 3 * i + 2 ≤ length line) where
       let e : 3 * i + 2 + 1 ≡ 3 * (i + 1) = omega arith in
       drop-drop 1 (3 * i + 2) line ∙ rw e
 
-  pub turn_ok : line_ok (drop (3 * i) line) ≡ true → (line_ok (drop (3 * (i + 1)) line) ≡ true)
+  pub turn_ok : line_ok (drop (3 * i) line) ≡ true → (pair_ok (get_or line (3 * i) 0) (get_or line (3 * i + 1) 0) ≡ true) × (line_ok (drop (3 * (i + 1)) line) ≡ true)
   turn_ok t = rw behind at (first_ok _ _ _ (rw (two line (3 * i) inside) at t))
 
-  pub turn_bytes : bytes_of (drop (3 * i) line) ≡ unwrap_or (byte_of (get_or line (3 * i) 0) (get_or line (3 * i + 1) 0)) 0 ∷ bytes_of (drop (3 * (i + 1)) line)
+  pub turn_bytes : bytes_of (drop (3 * i) line) ≡ byte_of (get_or line (3 * i) 0) (get_or line (3 * i + 1) 0) ∷ bytes_of (drop (3 * (i + 1)) line)
   turn_bytes = rw (two line (3 * i) inside, ← behind) (first_bytes _ _ _)

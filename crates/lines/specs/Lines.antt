@@ -1,6 +1,6 @@
 -- Paper 01, the program `bench`: one frame a line as hex pairs, either case, parted by single spaces; the reply so in
 -- capitals.
-use Rattle.std.specs.Prelude.{◌≡◌, ℕ, ◌+◌, ◌*◌, ◌<◌, min, Bool, true, false, ◌&&◌, cond, List, [], ◌∷◌, ◌++◌, leb, eqb, length, get_or, take, Option, Some, None, unwrap_or}
+use Rattle.std.specs.Prelude.{◌≡◌, ℕ, ◌+◌, ◌*◌, ◌<◌, min, Bool, true, false, ◌&&◌, cond, List, [], ◌∷◌, ◌++◌, leb, eqb, length, get_or, take, Option, Some, None}
 use Rattle.std.proofs.lemmas.List.Edits.{sets}
 use Rattle.digits.specs.Hex.{pair_ok, byte_of, pair_of}
 
@@ -16,10 +16,10 @@ pairs_ok (upper ∷ lower ∷ []) = pair_ok upper lower
 pairs_ok (c ∷ []) = false
 pairs_ok [] = false
 
--- their bytes; of what is no pair, 0
+-- their bytes
 unfoldable pub bytes_of : List ℕ → List ℕ
-bytes_of (upper ∷ lower ∷ space ∷ rest) = unwrap_or (byte_of upper lower) 0 ∷ bytes_of rest
-bytes_of (upper ∷ lower ∷ []) = unwrap_or (byte_of upper lower) 0 ∷ []
+bytes_of (upper ∷ lower ∷ space ∷ rest) = byte_of upper lower ∷ bytes_of rest
+bytes_of (upper ∷ lower ∷ []) = byte_of upper lower ∷ []
 bytes_of (c ∷ []) = []
 bytes_of [] = []
 

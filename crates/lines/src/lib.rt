@@ -63,15 +63,16 @@ fn line_ok(line: &[u8]) -> bool
     }
 }
 
-// Puts the byte of each pair, as many as there is room for, and answers how many. A pair and its space are three characters. What is
-// no pair would count as 0; the line was tested. Indexes the line: of a part that chunks(3) gives the proof did not see its length.
+// Puts the byte of each pair, as many as there is room for, and answers how many. A pair and its space are three characters. Indexes
+// the line: of a part that chunks(3) gives the proof did not see its length.
 fn put_bytes(line: &[u8], buffer: &mut [u8]) -> usize
+    requires { line_ok line.now ≡ true }
     ensures value { result ≡ min (length (bytes_of line.now)) (length buffer.old) }
     ensures buffer_after { buffer.new ≡ sets buffer.old 0 (take (length buffer.old) (bytes_of line.now)) }
 {
     let n = ((line.len() + 1) / 3).min(buffer.len());
     for i in 0..n {
-        buffer[i] = digits::byte_of(line[3 * i], line[3 * i + 1]).unwrap_or(0);
+        buffer[i] = digits::byte_of(line[3 * i], line[3 * i + 1]);
     }
     n
 }
