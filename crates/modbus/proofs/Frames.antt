@@ -1,13 +1,14 @@
 -- The tests of a frame, by what the code finds first.
 use mathlib.Core.Path.{◌≡◌, refl, sym, ap}
-use mathlib.Core.Bool.{Bool, true, false, ◌&&◌, ◌||◌, not, false≢true, and-eq-true_iff}
+use mathlib.Core.Bool.{Bool, true, false, ◌&&◌, ◌||◌, not, cond, false≢true, and-eq-true_iff}
 use mathlib.Core.List.{List}
 use Prim.Native.Nat.{ℕ, ◌*◌, ◌+◌, ◌≤◌, ◌<◌}
 use native.Mathlib.Omega.{arith}
 use lib.Dec.{leb, ltb, eqb}
 use lib.ListN.{length}
-use borrow.Author.Tests.{lt-ltb, le-ltb, ltb-false, leb-false, eqb-true, not-true}
+use borrow.Author.Tests.{lt-ltb, le-ltb, ltb-true, ltb-false, le-leb, lt-leb, leb-true, leb-false, eqb-true, eqb-false, not-true}
 use Rattle.std.specs.Prelude.{Err}
+use Rattle.std.proofs.Common.{Less, Equal, Greater, is_le, nat_cmp}
 use Rattle.refusal.specs.declared.ErrorCode.TheVariants.{Data}
 use Rattle.crc.specs.Crc.{intact}
 use Rattle.directory.specs.Run.{run_in}
@@ -45,6 +46,29 @@ second a false c d f g h = rw (f, g, h) refl
 pub neither : (a b : Bool) → (a || b) ≡ false → (a ≡ false) × (b ≡ false)
 neither true b h = absurd (false≢true (sym h))
 neither false b h = (refl, h)
+
+-- a number that is not within two limits is below the one or above the other
+ltb_not : (a b : ℕ) → ltb a b ≡ not (leb b a)
+ltb_not a b = by (leb b a) refl
+  where
+    by : (t : Bool) → leb b a ≡ t → ltb a b ≡ not t
+    by true e = le-ltb a b (leb-true b a e)
+    by false e = lt-ltb a b (leb-false b a e)
+
+not_both : (a b : Bool) → (not a || not b) ≡ not (a && b)
+not_both true b = refl
+not_both false b = refl
+
+compared : (a b : ℕ) → is_le (nat_cmp a b) ≡ leb a b
+compared a b = by (ltb a b) (eqb a b) refl refl
+  where
+    by : (x y : Bool) → ltb a b ≡ x → eqb a b ≡ y → is_le (cond x Less (cond y Equal Greater)) ≡ leb a b
+    by true y e f = sym (le-leb a b (omega (arith, ltb-true a b e)))
+    by false true e f = sym (le-leb a b (omega (arith, eqb-true a b f)))
+    by false false e f = sym (lt-leb a b (omega (arith, ltb-false a b e, eqb-false a b f)))
+
+pub outside : (least n most : ℕ) {inside : Bool} → inside ≡ (is_le (nat_cmp least n) && is_le (nat_cmp n most)) → (ltb n least || ltb most n) ≡ not inside
+outside least n most h = rw (ltb_not n least, ltb_not most n, h, compared least n, compared n most) (not_both (leb least n) (leb n most))
 
 module _ (own : ℕ) (frame : List ℕ) where
   abbrev misfit : Bool

@@ -52,7 +52,7 @@ pub fn silence(own: u8, frame: &[u8]) -> bool
     ensures { result ≡ silence own frame.now }
 {
     let n = frame.len();
-    if (n < FRAME_LEAST) | (FRAME_MOST < n) {
+    if !(FRAME_LEAST..=FRAME_MOST).contains(&n) {
         return true;
     }
     let address = frame[0];
@@ -73,7 +73,7 @@ pub fn read_in(directory: &Directory, frame: &[u8]) -> Result<Span, ErrorCode>
         return Err(ErrorCode::Data);
     }
     let words = words::word_at(frame, WORDS_AT);
-    if (words < 1) | (directory.most() < words) {
+    if !(1..=directory.most()).contains(&words) {
         return Err(ErrorCode::Data);
     }
     directory.run(words::word_at(frame, START_AT), words)
@@ -87,8 +87,8 @@ pub fn write_shaped(frame: &[u8]) -> bool
     if n < WRITE_OVERHEAD {
         return false;
     }
-    let words = words::word_at(frame, WORDS_AT) as usize;
-    let bytes = frame[BYTES_AT] as usize;
+    let words = usize::from(words::word_at(frame, WORDS_AT));
+    let bytes = usize::from(frame[BYTES_AT]);
     (words != 0) & (bytes == 2 * words) & (n == WRITE_OVERHEAD + bytes)
 }
 
@@ -97,12 +97,13 @@ pub fn values(frame: &[u8], into: &mut [u16])
     requires { 7 + 2 * length into.old ≤ length frame.now }
     ensures { into.new ≡ words_at (length into.old) frame.now 7 }
 {
-    for i in 0..into.len() {
-        into[i] = words::word_at(frame, WRITE_HEAD + 2 * i);
+    for (i, word) in into.iter_mut().enumerate() {
+        *word = words::word_at(frame, WRITE_HEAD + 2 * i);
     }
 }
 
-// Puts the error reply to a frame at the start of the buffer, and answers its length.
+// Puts the error reply to a frame at the start of the buffer, and answers its length. The buffer stays a slice and its least length a
+// clause, here and in `put_echo`: an array of 256 bytes would ask more of the callers.
 pub fn put_error(frame: &[u8], code: ErrorCode, buffer: &mut [u8]) -> usize
     requires { (2 ≤ length frame.now) × (function_of frame.now < 0x80) × (256 ≤ length buffer.old) }
     ensures value { result ≡ length (error_reply frame.now code) }

@@ -45,7 +45,7 @@ pub enum Quantity {
     Wrap(u16),
     // In thousandths.
     Factor(Signed),
-    // 0 for zero or more, 1 for negative.
+    // 0 for zero or more, 1 for negative. Stays a number, as do sector and sequence: `told` and `cell` hand it on as the register has it.
     Sign(u16),
     // 0 to 2.
     Sector(u16),
@@ -112,6 +112,7 @@ impl Quantity {
 }
 
 // What a collector makes of a reply: a reading, the meter's error code, or a refusal.
+// Stays an enum of three: paper 01 names the form, an answer enum whose reading case holds the enum of quantities.
 #[derive(Clone, Copy, Debug, PartialEq, Eq)]
 pub enum Answer {
     Reading(Quantity),
@@ -146,12 +147,14 @@ pub fn of(t: u32, it: Item, value: u32) -> Answer
         LOW => unless(WattHours::LOW_TOP < value, Quantity::Low(value)),
         HIGH => unless(WattHours::HIGH_TOP < value, Quantity::High(value)),
         WRAP => Answer::Reading(Quantity::Wrap(value as u16)),
-        FACTOR => factor(it.words == 2, value),
+        FACTOR if it.words == 2 => thousandths(value),
+        FACTOR => hundredths(value),
         SIGN => unless(1 < value, Quantity::Sign(value as u16)),
         SECTOR => unless(2 < value, Quantity::Sector(value as u16)),
         FREQUENCY => Answer::Reading(Quantity::Frequency(value as u16)),
         KTA => kta(value as u16),
         KTV => ktv(value as u16),
+        // Stays two tests, those of the paper's row: with `matches!` it stayed open that its answer is that of the row.
         SEQUENCE => unless(
             !((value == 1) | (value == 2)),
             Quantity::Sequence(value as u16),
@@ -195,15 +198,19 @@ fn energy(t: u32, value: u32) -> Quantity
     }
 }
 
-// In two words a factor is sent in thousandths, in one word in hundredths.
-fn factor(long: bool, value: u32) -> Answer
-    requires { long ≡ false → value < 65536 }
-    ensures { result ≡ cond (cond long (ltb 1000 (magnitude_in 2 value)) (ltb 100 (magnitude_in 1 value))) (Refused ValueImpossible) (Reading (Factor (cond long (signed_in 2 value) (times 10 (signed_in 1 value))))) }
+// In two words a factor is sent in thousandths.
+fn thousandths(value: u32) -> Answer
+    ensures { result ≡ cond (ltb 1000 (magnitude_in 2 value)) (Refused ValueImpossible) (Reading (Factor (signed_in 2 value))) }
 {
-    if long {
-        let s = signed_in(LONG, value);
-        return unless(TOP_IN_THOUSANDTHS < s.magnitude, Quantity::Factor(s));
-    }
+    let s = signed_in(LONG, value);
+    unless(TOP_IN_THOUSANDTHS < s.magnitude, Quantity::Factor(s))
+}
+
+// In one word a factor is sent in hundredths.
+fn hundredths(value: u32) -> Answer
+    requires { value < 65536 }
+    ensures { result ≡ cond (ltb 100 (magnitude_in 1 value)) (Refused ValueImpossible) (Reading (Factor (times 10 (signed_in 1 value)))) }
+{
     let s = signed_in(WORD, value);
     let tenfold = Signed {
         negative: s.negative,
@@ -232,6 +239,7 @@ const WORD: u64 = 65_536;
 
 const LONG: u64 = 4_294_967_296;
 
+// Stays by hand: by `cast_signed` each width would have its own function, and a signed integer between that the definition is not over.
 // Two's complement. `full` is how many values the words can have; each of the upper half of them stands for value - full.
 fn signed_in(full: u64, value: u32) -> Signed
     requires { value ≤ full }

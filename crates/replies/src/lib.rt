@@ -78,13 +78,13 @@ pub fn judge(
     ensures { result ≡ judged_in directory.now request.now reply.now ratios }
 {
     if !ratios.within() {
-        return Err(Unread::Refused(Refusal::RatioOutOfLimits));
+        return Err(Refusal::RatioOutOfLimits.into());
     }
     if !heard(request) {
-        return Err(Unread::Refused(Refusal::NotARead));
+        return Err(Refusal::NotARead.into());
     }
     let Ok(asked) = modbus::read_in(directory, request) else {
-        return Err(Unread::Refused(Refusal::NotARead));
+        return Err(Refusal::NotARead.into());
     };
     replied(request, reply)?;
     Ok(asked)
@@ -110,17 +110,17 @@ fn replied(request: &[u8], reply: &[u8]) -> Result<(), Unread>
     ensures { result ≡ reply_of request.now reply.now tt }
 {
     let n = reply.len();
-    if (n < REPLY_LEAST) | (modbus::FRAME_MOST < n) {
-        return Err(Unread::Refused(Refusal::ReplyLength));
+    if !(REPLY_LEAST..=modbus::FRAME_MOST).contains(&n) {
+        return Err(Refusal::ReplyLength.into());
     }
     if !eight::intact(reply) {
-        return Err(Unread::Refused(Refusal::ReplyCrc));
+        return Err(Refusal::ReplyCrc.into());
     }
     let function = reply[1];
     if (reply[0] != request[0])
         | ((function != modbus::READ_HOLDING_REGISTERS) & (function != READ_ERROR))
     {
-        return Err(Unread::Refused(Refusal::ReplyForeign));
+        return Err(Refusal::ReplyForeign.into());
     }
     if function == READ_ERROR {
         return Err(error(reply));
@@ -129,7 +129,7 @@ fn replied(request: &[u8], reply: &[u8]) -> Result<(), Unread>
     if (bytes != 2 * usize::from(words::word_at(request, modbus::WORDS_AT)))
         | (n != REPLY_LEAST + bytes)
     {
-        return Err(Unread::Refused(Refusal::ReplyMisfit));
+        return Err(Refusal::ReplyMisfit.into());
     }
     Ok(())
 }
@@ -140,10 +140,10 @@ fn error(reply: &[u8]) -> Unread
     ensures { result ≡ error_of reply.now }
 {
     if reply.len() != REPLY_LEAST {
-        return Unread::Refused(Refusal::ReplyMisfit);
+        return Refusal::ReplyMisfit.into();
     }
     match ErrorCode::try_from(reply[2]) {
-        Ok(code) => Unread::Error(code),
-        Err(_) => Unread::Refused(Refusal::ReplyMisfit),
+        Ok(code) => code.into(),
+        Err(_) => Refusal::ReplyMisfit.into(),
     }
 }

@@ -14,6 +14,7 @@ pub enum Order {
     LowerFirst,
 }
 
+// Puts one word at a place, upper byte first.
 fn put_word(buffer: &mut [u8], at: usize, w: u16)
     requires { at + 2 ≤ length buffer.old }
     ensures { buffer.new ≡ sets buffer.old at (word w) }
@@ -21,6 +22,7 @@ fn put_word(buffer: &mut [u8], at: usize, w: u16)
     buffer[at..at + 2].copy_from_slice(&w.to_be_bytes());
 }
 
+// Puts two words at a place, one behind the other.
 fn put_two(buffer: &mut [u8], at: usize, first: u16, second: u16)
     requires { at + 4 ≤ length buffer.old }
     ensures { buffer.new ≡ sets buffer.old at (word first ++ word second) }
@@ -29,8 +31,8 @@ fn put_two(buffer: &mut [u8], at: usize, first: u16, second: u16)
     put_word(buffer, at + 2, second);
 }
 
-// Puts v at a place of the buffer: its lower 16 bits as one word, or all 32 as two in their order. How many words stays a number: it
-// stands so in the directory's rows, and the laws of words are over any.
+// Puts v at a place of the buffer: its lower 16 bits as one word, or all 32 as two in their order. How many words stays a number, here and
+// in `value_at`: it stands so in the directory's rows, and the laws of words are over any.
 pub fn put(buffer: &mut [u8], at: usize, words: usize, order: Order, v: u32)
     requires { (at + 2 * words ≤ length buffer.old) × ((1 ≤ words) × (words ≤ 2)) }
     ensures { buffer.new ≡ sets buffer.old at (sent order words v) }

@@ -2,6 +2,8 @@
 use Rattle.std.proofs.Common.{◌≡◌, refl, sym, ap, ◌∙◌, true, false, ◌&&◌, cond, Bool, ℕ, ◌-◌, ◌*◌, ◌%◌, ◌/◌, ◌^◌, ◌≤◌, ◌<◌, arith, rules}
 use native.Mathlib.Nat.{mul-le-mul}
 use lib.Dec.{leb, ltb}
+use borrow.Author.Tests.{eq-eqb, ne_eqb}
+use Rattle.words.specs.Signed.{magnitude_in}
 use Rattle.refusal.specs.declared.Refusal.TheVariants.{ValueImpossible}
 use Rattle.signed.specs.declared.Signed.{Signed}
 use Rattle.counts.specs.Counting.{top_count}
@@ -11,10 +13,10 @@ use Rattle.directory.specs.Order.{shaped, meant}
 use Rattle.directory.proofs.ByKind.{kind_is}
 use Rattle.directory.proofs.Shapes.{shape}
 use Rattle.reading.specs.declared.Quantity.{Quantity}
-use Rattle.reading.specs.declared.Quantity.TheVariants.{Power, SignedPower}
+use Rattle.reading.specs.declared.Quantity.TheVariants.{Power, SignedPower, Factor}
 use Rattle.reading.specs.declared.Answer.{Answer}
 use Rattle.reading.specs.declared.Answer.TheVariants.{Reading, Refused}
-use Rattle.reading.specs.Readings.{reading_of}
+use Rattle.reading.specs.Readings.{reading_of, signed_in, times}
 use Rattle.reading.proofs.ByKind.{answer_at, upper_refused, by_kind, unit_most}
 use Rattle.reading.proofs.Wide.{words_for, Wide, wide}
 use Rattle.reading.proofs.of.Goals as goal
@@ -50,9 +52,6 @@ overflow_mul-result c =
     let value : c.from.result ≤ 4294967295 = rw c.from.ensures (search rules) in
     let most = mul-le-mul {n₁ = c.from.result} {m₁ = c.unit.result} {n₂ = 4294967295} {m₂ = 100} value (omega (arith, c.unit.ensures, unit_most a.t (a.it.quantity % 64))) in
     record { fits = omega (arith, most) }
-
-pub factor-requires : goal.factor-requires
-factor-requires c = λ other. short c.args.t c.args.it c.args.value c.requires.item_ruled c.requires.value_fits ((shape c.args.it c.requires.item_ruled.0).short other).0
 
 pub overflow_cast-result : goal.overflow_cast-result
 overflow_cast-result c = omega (arith, word c.args.t c.args.it c.args.value c.requires.item_ruled c.requires.value_fits 8 c.in-512.is refl)
@@ -112,8 +111,23 @@ returns-in-448 c = arm c.args.t c.args.it c.args.value c.requires.item_ruled c.r
 pub returns-in-512 : goal.returns-in-512
 returns-in-512 c = arm c.args.t c.args.it c.args.value c.requires.item_ruled c.requires.value_fits 8 c.is_b.ensures c.if-is_b-value.false c.in-512.is refl
 
+-- a factor by whether it has two words
+abbrev factor_of : ℕ → Bool → Answer
+factor_of v long = cond (cond long (ltb 1000 (magnitude_in 2 v)) (ltb 100 (magnitude_in 1 v))) (Refused ValueImpossible) (Reading (Factor (cond long (signed_in 2 v) (times 10 (signed_in 1 v)))))
+
 pub returns-in-576 : goal.returns-in-576
-returns-in-576 c = arm c.args.t c.args.it c.args.value c.requires.item_ruled c.requires.value_fits 9 c.is_b.ensures c.if-is_b-value.false c.in-576.is c.factor.ensures
+returns-in-576 c =
+    arm c.args.t c.args.it c.args.value c.requires.item_ruled c.requires.value_fits 9 c.is_b.ensures c.if-is_b-value.false c.in-576.is
+    (c.thousandths.ensures ∙ ap (factor_of c.args.value) (sym (eq-eqb c.args.it.words 2 c.if-it-eq2.true)))
+
+pub returns-in-576-2 : goal.returns-in-576-2
+returns-in-576-2 c =
+    arm c.args.t c.args.it c.args.value c.requires.item_ruled c.requires.value_fits 9 c.is_b.ensures c.if-is_b-value.false c.in-576.is
+    (c.hundredths.ensures ∙ ap (factor_of c.args.value) (sym (ne_eqb c.args.it.words 2 c.if-it-eq2.false)))
+
+pub hundredths-requires : goal.hundredths-requires
+hundredths-requires c =
+    short c.args.t c.args.it c.args.value c.requires.item_ruled c.requires.value_fits ((shape c.args.it c.requires.item_ruled.0).short (ne_eqb c.args.it.words 2 c.if-it-eq2.false)).0
 
 pub returns-in-640 : goal.returns-in-640
 returns-in-640 c = arm c.args.t c.args.it c.args.value c.requires.item_ruled c.requires.value_fits 10 c.is_b.ensures c.if-is_b-value.false c.in-640.is c.unless-in-640.ensures

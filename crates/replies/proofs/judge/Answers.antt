@@ -8,15 +8,16 @@ use Rattle.replies.proofs.judge.Goals as goal
 
 pub returns-then-not-within : goal.returns-then-not-within
 unfolding judged_in
-returns-then-not-within c = simp (sym c.within.ensures ∙ c.if-not-within.true)
+returns-then-not-within c = ap Err c.into.ensures ∙ simp (sym c.within.ensures ∙ c.if-not-within.true)
 
 pub returns-then-not-heard : goal.returns-then-not-heard
 unfolding judged_in
-returns-then-not-heard c = simp (sym c.within.ensures ∙ c.if-not-within.false, sym c.heard.ensures ∙ c.if-not-heard.true)
+returns-then-not-heard c = ap Err c.into-then-not-heard.ensures ∙ simp (sym c.within.ensures ∙ c.if-not-within.false, sym c.heard.ensures ∙ c.if-not-heard.true)
 
 pub returns-in_default : goal.returns-in_default
 returns-in_default c =
-    heard_judged _ _ c.args.reply.now _ (Err c.in_default.field-0) (sym c.within.ensures ∙ c.if-not-within.false) (sym c.heard.ensures ∙ c.if-not-heard.false) (sym c.read_in.ensures ∙ c.in_default.is)
+    ap Err c.into-in_default.ensures
+    ∙ heard_judged _ _ c.args.reply.now _ (Err c.in_default.field-0) (sym c.within.ensures ∙ c.if-not-within.false) (sym c.heard.ensures ∙ c.if-not-heard.false) (sym c.read_in.ensures ∙ c.in_default.is)
 
 pub replied-requires : goal.replied-requires
 replied-requires c =

@@ -8,7 +8,7 @@ use Rattle.reading.specs.declared.Quantity.TheVariants.{Factor}
 use Rattle.reading.specs.declared.Answer.{Answer}
 use Rattle.reading.specs.declared.Answer.TheVariants.{Reading, Refused}
 use Rattle.reading.specs.Readings.{times}
-use Rattle.reading.proofs.factor.Goals as goal
+use Rattle.reading.proofs.hundredths.Goals as goal
 
 -- what is read, where the magnitude is at most its top
 abbrev read : ℕ → ℕ → Signed → Answer
@@ -21,15 +21,9 @@ magnitude_most v h = by (leb 32768 v)
     by true = omega arith
     by false = omega (arith, h)
 
-pub returns-then-long : goal.returns-then-long
-returns-then-long c =
-    rw c.if-long.true
-    (c.unless.ensures
-    ∙ ap (λ (s : Signed). cond (ltb 1000 s.magnitude) (Refused ValueImpossible) (Reading (Factor s))) c.signed_in-s.ensures)
-
 pub overflow_mul-tenfold : goal.overflow_mul-tenfold
 overflow_mul-tenfold c =
-    omega (arith, ap (λ (c : Signed). c.magnitude) c.signed_in-s-2.ensures, magnitude_most c.args.value (c.requires c.if-long.false))
+    omega (arith, ap (λ (c : Signed). c.magnitude) c.signed_in-s.ensures, magnitude_most c.args.value c.requires)
 
 pub returns : goal.returns
-returns c = rw c.if-long.false (c.unless-2.ensures ∙ ap (read 100 10) c.signed_in-s-2.ensures)
+returns c = c.unless.ensures ∙ ap (read 100 10) c.signed_in-s.ensures
