@@ -10,8 +10,10 @@ use meter::Meter;
 use meter::groups::Setup;
 use refusal::ErrorCode;
 
-// Where each group of setup words starts.
+// Where the standard group of setup words starts.
 const STANDARD: u16 = 0x2000;
+
+// Where the output group starts.
 const OUTPUT: u16 = 0x2200;
 
 // Judges a write, and answers the meter with its group of setup words stored. A wrong write gives no meter: the caller's stays.
