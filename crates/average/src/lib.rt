@@ -22,6 +22,7 @@ pub struct Window {
 
 impl Window {
     // The window with one second more. A negative P adds 0 to its sum.
+    // `Joins` stays a clause: it is of a window and a power together, and two functions ask it, one for the other.
     fn joined(self, p: Signed) -> Window
         requires { Joins self p }
         ensures { result ≡ joined_by self p }
@@ -41,6 +42,7 @@ impl Window {
     }
 }
 
+// `last` and `peak` stay numbers, no Option: request 1 has 0 on a new meter, and sends it.
 #[derive(Clone, Copy, Debug, Default, PartialEq, Eq)]
 pub struct Average {
     pub window: Window,

@@ -28,6 +28,7 @@ pub(crate) fn read(asker: Asker, sound: Sound, frame: &[u8], buffer: &mut Room) 
 }
 
 // Puts the data reply to a read of the items asked for, and answers its length.
+// The cast stays: a read asks for 125 words at the most, and `try_from` would add a case that never comes.
 fn put_data(asked: &Items, sound: Sound, frame: &[u8], buffer: &mut Room) -> usize
     requires words_as_asked { (length frame.now ≡ 8) × (words_of asked.now ≡ word_number frame.now) }
     requires room { 5 + 2 * word_number frame.now ≤ 256 }
@@ -50,6 +51,7 @@ fn put_items(asked: &Items, sound: Sound, buffer: &mut [u8]) -> usize
 {
     let order = sound.meter.given.order;
     let mut at = modbus::DATA_HEAD;
+    // Stays an index loop: `Items` is lent, models a borrowed table and is no Copy, and no iterator of it is had from a reference.
     for i in 0..asked.len() {
         let it = asked.at(i);
         let width = usize::from(it.words);

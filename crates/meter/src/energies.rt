@@ -25,6 +25,7 @@ impl Energy {
     }
 
     // The energy after one more second at a power, in hundredths of W or var. Whole Wh pass from the remainder.
+    // The cast stays: what is left of a Wh fits 32 bits, and `try_from` would add a case that never comes.
     fn plus(self, power: u64) -> Energy
         requires { (self.wh.0 ≤ top_wh) × (power ≤ top_power) }
         ensures { result ≡ plus_of self power }

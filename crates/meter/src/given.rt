@@ -13,6 +13,7 @@ pub struct Given {
     // Its own address, 1 to 255.
     pub address: u8,
     // The address that a tenant reads it by, or NO_SECOND.
+    // Stays a number: request 3 has 0 for none, and a record may hold any byte.
     pub second: u8,
     pub ratios: Ratios,
     // Which word of a long it sends first, at either address.
@@ -40,6 +41,7 @@ impl Given {
         Ok(())
     }
 
+    // Stays beside `judged`: a record's limits are stated for themselves, without the refusals of a new meter and their order.
     pub(crate) fn within(self) -> bool
         ensures { result ≡ given_ok self }
     {

@@ -81,6 +81,7 @@ pub struct Sample {
     // Apparent power, in hundredths of VA.
     pub s: u64,
     pub factor: Factor,
+    // Sector and sequence stay numbers: a sample may be out of limits, and is then refused.
     // 0 to 2.
     pub sector: u8,
     // Of the phases, 1 or 2.

@@ -30,6 +30,7 @@ pub fn directory() -> Directory<'static>
 pub const TENANT_ITEMS: usize = 83;
 
 // A tenant's part of the table, and as many words.
+// Stays beside `directory`: one function of both would ask its callers again what `Directory::of` asks of a table and a part of it.
 pub fn tenant_directory() -> Directory<'static>
     ensures { result ≡ tenant_of own }
 {
@@ -38,6 +39,7 @@ pub fn tenant_directory() -> Directory<'static>
 
 // The run of items for `words` words from the address `start`. Any number of words is taken: the limit of one read is
 // not tested here.
+// No meter calls it: it stays a public call for whoever plans reads.
 pub fn run(start: u16, words: u16) -> Result<Span, ErrorCode>
     ensures { result ≡ run_in directory start words }
 {

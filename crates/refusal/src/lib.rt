@@ -29,7 +29,7 @@ pub enum Refusal {
 }
 
 impl Refusal {
-    // The number of its row.
+    // The number of its row. Stays a match: each number stands beside its name, as in the paper's table; a cast would hide it.
     pub fn number(self) -> u8
         ensures { result ≡ refusal_number self }
     {
@@ -87,7 +87,7 @@ pub enum ErrorCode {
 }
 
 impl ErrorCode {
-    // The code as it is sent in an error reply.
+    // The code as it is sent in an error reply. Stays a match: each code stands beside its name; a cast would hide it.
     pub fn number(self) -> u8
         ensures { result ≡ error_number self }
     {

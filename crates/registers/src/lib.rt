@@ -1,5 +1,6 @@
 // What the registers show (paper 01, "Steps of the registers" and "The directory"): from a meter and a quantity to the value
 // that is sent for it. A match on the kind comes first, then one on which quantity of the kind. A number that is no quantity shows 0.
+// The casts below stay: a sound meter's values fit what is sent for them, and `try_from` would add a case that never comes.
 #![tactic(auto)]
 
 ghost use Rattle.std.specs.Prelude.{◌≡◌, ◌++◌, get_or};
@@ -16,7 +17,8 @@ use meter::sound::Sound;
 use signed::Signed;
 
 // The value that is sent for a quantity. An item of one word sends the lower 16 bits of it.
-// Kinds stay numbers: `shown` promises a value for every number of the directory's flat table, in which a quantity is 64 × kind + which.
+// Kinds stay numbers: `shown` promises a value for every number of the directory's flat table, in which a quantity is
+// 64 × kind + which.
 pub fn shown(sound: Sound, quantity: u16) -> u32
     ensures { result ≡ shown_of sound.meter quantity }
 {
@@ -53,7 +55,7 @@ fn value_at<const N: usize>(values: [u32; N], which: u16) -> u32
 }
 
 // Registers of P, Q and S, of the average and of its peak hold a magnitude in the unit that the ratio gives. One more register of
-// S is in whole VA at any ratio. The casts stay: a sound meter's values fit, and `try_from` would add a case that never comes.
+// S is in whole VA at any ratio.
 fn power(sound: Sound, which: u16) -> u32
     ensures { result ≡ get_or (power_values sound.meter) which 0 }
 {

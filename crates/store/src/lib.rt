@@ -10,6 +10,12 @@ use meter::Meter;
 use meter::groups::Setup;
 use refusal::ErrorCode;
 
+// Where the standard group of setup words starts.
+const STANDARD: u16 = 0x2000;
+
+// Where the output group starts.
+const OUTPUT: u16 = 0x2200;
+
 // Judges a write, and answers the meter with its group of setup words stored. A wrong write gives no meter: the caller's stays.
 pub fn write(m: Meter, frame: &[u8]) -> Result<Meter, ErrorCode>
     ensures { result ≡ written_of m frame.now }
@@ -18,7 +24,7 @@ pub fn write(m: Meter, frame: &[u8]) -> Result<Meter, ErrorCode>
         return Err(ErrorCode::Data);
     }
     let changed = match words::word_at(frame, modbus::START_AT) {
-        0x2000 => {
+        STANDARD => {
             let standard = group(frame)?;
             if !setup::standard_ok(standard) {
                 return Err(ErrorCode::Data);
@@ -28,7 +34,7 @@ pub fn write(m: Meter, frame: &[u8]) -> Result<Meter, ErrorCode>
                 ..m.setup
             }
         }
-        0x2200 => {
+        OUTPUT => {
             let output = group(frame)?;
             if !setup::output_ok(output) {
                 return Err(ErrorCode::Data);
@@ -40,8 +46,8 @@ pub fn write(m: Meter, frame: &[u8]) -> Result<Meter, ErrorCode>
     Ok(m.set_up(changed))
 }
 
-// The words of a write to a group of N words. Their range is tested by the caller, since the check has no proof of a function parameter that
-// takes an array of N.
+// The words of a write to a group of N words. Their range is tested by the caller, since the check has no proof of a function
+// parameter that takes an array of N.
 fn group<const N: usize>(frame: &[u8]) -> Result<[u16; N], ErrorCode>
     requires { write_shaped frame.now ≡ true }
     ensures { result ≡ cond (eqb (word_number frame.now) N) (Ok (write_values frame.now)) (Err Data) }

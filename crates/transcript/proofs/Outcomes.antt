@@ -1,5 +1,6 @@
--- What holds of each outcome that a frame may have holds of the one that it has; so a meter within limits stays so and refuses nothing, a frame that
--- is cut where it is too long already is answered as it was, and a reply is short beside the line that asks for it.
+-- What holds of each outcome that a frame may have holds of the one that it has; so a meter within limits stays so and refuses
+-- nothing, a frame that is cut where it is too long already is answered as it was, and a reply is short beside the line that asks
+-- for it.
 use mathlib.Core.Path.{◌≡◌, refl, sym, ap, ◌∙◌}
 use mathlib.Core.Bool.{Bool, true, false, ◌&&◌, not, cond, false≢true}
 use mathlib.Core.List.{List, ◌∷◌}

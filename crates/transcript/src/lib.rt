@@ -12,9 +12,10 @@ use ratio::Ratios;
 use words::Order;
 
 // One byte more than the longest frame. A longer one is cut here; what is left is still too long, and the meter keeps silent on it.
-const FRAME_ROOM: usize = 257;
+const FRAME_ROOM: usize = modbus::FRAME_MOST + 1;
 
-const REPLY_ROOM: usize = 256;
+// Room for any reply. Arrays with a length beside them stay: memory is fixed, and nothing here is on a heap.
+const REPLY_ROOM: usize = modbus::FRAME_MOST;
 
 // The characters that one byte of input may lead to. The longest answer for its line is data of 120 words: 735 characters, with the
 // line feed, to a request of 23.

@@ -1,5 +1,5 @@
--- A bad line is answered so, and leaves the meter as it was. The frame of a good one is cut at 257 bytes, where it was too long already, and so the
--- meter does with it what it does with the whole frame.
+-- A bad line is answered so, and leaves the meter as it was. The frame of a good one is cut at 257 bytes, where it was too long
+-- already, and so the meter does with it what it does with the whole frame.
 use lib.ListN.{length, take, replicate, length-take}
 use Rattle.std.proofs.Common.{◌≡◌, refl, sym, ap, ◌∙◌, Bool, true, false, cond, List, ℕ, min, Some, None, arith}
 use lib.Seq.{sets}
