@@ -1,6 +1,7 @@
 // Which word of a long goes first (paper 02, request 5), through a board and a collector: what meters of either order send at both of
 // their addresses, and what a collector makes of it that is told the same order or the other. What each example comes to is printed,
 // and held to the file `stdout`.
+// The stream and the meter stay two arguments: each example hands its own meter on to the next.
 #![tactic(auto)]
 
 mod items;
@@ -23,6 +24,7 @@ fn main(rt: HostRuntime) -> io::Result<()> {
     first_items(out, meters::unnamed(), &[AT_OWN, AT_SECOND])
 }
 
+// Stays two walks over reads: the reader's bound is for any lifetime of an exchange, and a closure handed on under it has no proof.
 fn examples(out: Stdout, m: Meter) -> io::Result<()> {
     first_items(out, m, &LONGS)?;
     energies(out, m)?;
