@@ -9,6 +9,7 @@ mod meters;
 mod reads;
 mod rows;
 
+use ask::Exchange;
 use board::Meter;
 use meters::ORDERS;
 use reads::{AT_OWN, AT_SECOND, COUNT, LONGS, Read, SEVERAL, SINGLE_WORDS};
@@ -24,15 +25,11 @@ fn main(rt: HostRuntime) -> io::Result<()> {
     first_items(out, meters::unnamed(), &[AT_OWN, AT_SECOND])
 }
 
-// Stays two walks over reads: the reader's bound is for any lifetime of an exchange, and a closure handed on under it has no proof.
 fn examples(out: Stdout, m: Meter) -> io::Result<()> {
     first_items(out, m, &LONGS)?;
     energies(out, m)?;
     first_items(out, m, &SINGLE_WORDS)?;
-    for read in &SEVERAL {
-        read.told(out, m, rows::read)?;
-    }
-    Ok(())
+    each(out, m, &SEVERAL, rows::read)
 }
 
 // Counts of 1,525, 1,526 and 65,537. In the wrong order 1,525 is another count, and 1,526 is past the top of one.
@@ -44,8 +41,17 @@ fn energies(out: Stdout, m: Meter) -> io::Result<()> {
 }
 
 fn first_items(out: Stdout, m: Meter, reads: &[Read]) -> io::Result<()> {
+    each(out, m, reads, items::read)
+}
+
+// What is told of each read.
+fn each<F>(out: Stdout, m: Meter, reads: &[Read], tell: F) -> io::Result<()>
+where
+    F: Fn(Stdout, Exchange<'_>) -> io::Result<()> + Copy,
+    requires { F.IsAlwaysCallable tell }
+{
     for read in reads {
-        read.told(out, m, items::read)?;
+        read.told(out, m, tell)?;
     }
     Ok(())
 }
