@@ -15,7 +15,7 @@ pub struct Exchange<'a> {
 }
 
 impl<'a> Exchange<'a> {
-    // One item of the reply.
+    // One item of the reply. Stays a match: neither Answer nor Result is this crate's own type, so no From can stand here.
     pub fn item(self, index: usize) -> Result<Quantity, Unread>
         ensures { collector_of self.entry.request.now self.entry.reply.now self.entry.plate index ≡ answer_of result }
     {
@@ -28,6 +28,7 @@ impl<'a> Exchange<'a> {
 }
 
 // How many items a whole reply has, or why it is not read.
+// Stays beside `say::Told`: the number is printed behind its word.
 #[derive(Clone, Copy)]
 pub struct Items(pub Result<usize, Unread>);
 
@@ -39,3 +40,9 @@ impl Display for Items {
         }
     }
 }
+
+// What the cells of both rows hold before a whole read. No kind has this number, and no item of the examples reads as it: a cell that
+// shows it was not written.
+pub const VALUE_MARK: u64 = 99;
+
+pub const KIND_MARK: u8 = 99;

@@ -8,6 +8,7 @@ use board::{Meter, Refusal};
 use std::fmt::{self, Display};
 
 // The reply, none where the meter is silent, or why the frame is refused; and the meter after it.
+// Stays a struct, no Result of the meter, as `board::Handled`: a refused frame hands the record back as well.
 #[derive(Clone, Copy)]
 pub struct Heard<'a> {
     pub reply: Result<Option<&'a [u8]>, Refusal>,
@@ -31,6 +32,7 @@ pub fn hear<'a>(meter: Meter, frame: &[u8], buffer: &'a mut [u8; REPLY_ROOM]) ->
     ensures short { IfOk result.reply (λ sent. IfSome sent (λ reply. length reply.now ≤ 256)) }
 {
     let handled = board::handle(meter, frame, buffer);
+    // Stays a match, no map: the wrong program `silence_refused` changes the arm of silence.
     let reply = match handled.reply {
         Ok(None) => Ok(None),
         Ok(Some(n)) => Ok(Some(&buffer[..n])),

@@ -9,12 +9,13 @@ ghost use Rattle.ask.specs.Ask.{read_of, write_of};
 
 use board::{Given, Meter, Order, Ratios, Refusal};
 use collector::Nameplate;
-pub use exchange::{Exchange, Items};
+pub use exchange::{Exchange, Items, KIND_MARK, VALUE_MARK};
 pub use heard::{Heard, hear};
 use say::Bytes;
 use std::fmt::{self, Display};
 use std::io::{self, Stdout};
 
+// Any reply has room in it. Stays a number, not modbus' FRAME_MOST: the wrong program `room_of_255` changes it in this line.
 pub const REPLY_ROOM: usize = 256;
 
 // A longer frame is told by its length. A reply of eight words is not.
@@ -23,9 +24,14 @@ const SHORT: usize = 21;
 // The ratios of a meter without transformers.
 pub const DIRECT: Ratios = Ratios { kta: 1, ktv: 10 };
 
+// A meter's own address, and the one that a tenant reads it by.
+pub const OWN: u8 = 1;
+
+pub const SECOND: u8 = 9;
+
 // Paper 01's meters send the upper word first. This one has no second address.
 pub const GIVEN: Given = Given {
-    address: 1,
+    address: OWN,
     second: Given::NO_SECOND,
     ratios: DIRECT,
     order: Order::UpperFirst,
@@ -52,6 +58,7 @@ impl<'a> Display for Frame<'a> {
 }
 
 // Whether a meter takes what it is given: a record, or a sample.
+// Stays beside `say::Told`: what is taken has no value to print, and is told by a word.
 #[derive(Clone, Copy)]
 pub struct Taken(pub Result<(), Refusal>);
 

@@ -13,6 +13,7 @@ const INPUT_MOST: usize = 65_536;
 
 fn main(rt: HostRuntime) -> io::Result<()> {
     let mut input = ArrayVec::<u8, INPUT_MOST>::new();
+    // Stays a cast: a usize has no From to u64.
     io::copy(&mut rt.stdin().take(INPUT_MOST as u64), &mut input)?;
     let mut text = text_buffer();
     let end = answer(input.as_slice(), &mut text);
@@ -20,6 +21,7 @@ fn main(rt: HostRuntime) -> io::Result<()> {
 }
 
 // Room for the text: 32 characters for each of 65,536 bytes of input.
+// Stays spelled out: the contracts of `text_buffer` and `answer` name the number, in digits.
 fn text_buffer() -> [u8; 2_097_152]
     ensures { 2097152 ≡ length result }
 {

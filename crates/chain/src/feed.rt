@@ -76,6 +76,7 @@ impl Feed {
     }
 
     // The board's answer to a request, if there is one. A read leaves the meter as it is, so the one handed back is not kept.
+    // Stays spelled out, as in other programs: each prints something else of the frame and the reply.
     fn poll<'a>(
         self,
         request: &'a [u8],
@@ -114,6 +115,7 @@ impl Feed {
         self.meter.given.ratios
     }
 
+    // What a join comes to: an energy, held against the exact one, or why there is none.
     fn load(self, joined: Result<WattHours, Refusal>, step: u64) -> io::Result<()> {
         match joined {
             Ok(wh) => self.bounds(wh.0, step),

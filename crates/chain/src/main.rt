@@ -1,6 +1,7 @@
-// One energy on its way from samples to the load on a feed: how a board and a collector call us. A new meter takes six minutes of
-// samples; then its +Ea is polled in each of its three places, read, joined, and held against the plain sum of the samples. Four
-// meters of large transformers follow, where the table of steps ends.
+// One energy on its way from samples to the load on a feed. The samples and the joins are called as a board and a collector call us,
+// a frame and a reading through `ask`. A new meter takes six minutes of samples; then its +Ea is polled in each of its three places,
+// read, joined, and held against the plain sum of the samples. Four meters of large transformers follow, where the table of steps
+// ends.
 #![tactic(auto)]
 
 mod feed;
@@ -53,6 +54,7 @@ fn from_samples(out: Stdout) -> io::Result<()> {
 }
 
 // A new meter of address 1.
+// Stays beside the other programs' new meters: each names what its own examples change of `Given`.
 fn made(ratios: Ratios) -> Answered {
     Meter::of(Given {
         ratios,
@@ -60,6 +62,7 @@ fn made(ratios: Ratios) -> Answered {
     })
 }
 
+// The meter after its samples, and how many of them it has accepted.
 #[derive(Clone, Copy)]
 struct Sampled {
     meter: Meter,

@@ -8,12 +8,13 @@ const SAMPLE_TURNS: u32 = 1000;
 const SHOWN_TURNS: usize = 1000;
 
 // A new meter without transformers, which sends the upper word first.
+// Stays beside the other programs' new meters: of `GIVEN` nothing is changed here.
 pub fn new() -> Meter {
     Meter::of(GIVEN).meter
 }
 
 pub fn counted() -> u64 {
-    let new = new();
+    let meter = new();
     let sample = Sample {
         p: Powers {
             l1: 120_000,
@@ -25,9 +26,9 @@ pub fn counted() -> u64 {
             l2: 60_000,
             l3: -1,
         },
-        ..new.latest
+        ..meter.latest
     };
-    let m = after(new, sample);
+    let m = after(meter, sample);
     m.counters.active.positive.wh.0 / 2 + u64::from(shown(m))
 }
 
@@ -46,6 +47,7 @@ fn shown(m: Meter) -> u32 {
     let directory = own::directory();
     let mut shows = 0;
     for k in 0..SHOWN_TURNS {
+        // Stays a remainder: the turns go over the items again and again, and the directory lends an item by its index.
         let it = directory.item(k % own::ITEMS);
         shows ^= registers::shown(sound, it.quantity);
     }

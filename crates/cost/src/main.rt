@@ -10,11 +10,13 @@ mod readings;
 use arrayvec::ArrayVec;
 use std::io::{self, Read};
 
+// The bytes of standard input that are read. Stays beside `ask::REPLY_ROOM`: what is read here is a frame to the meter, no reply.
 const ROOM: usize = 256;
 
 fn main(rt: HostRuntime) -> io::Result<()> {
     let out = rt.stdout();
     let mut input = ArrayVec::<u8, ROOM>::new();
+    // Stays a cast: a usize has no From to u64.
     io::copy(&mut rt.stdin().take(ROOM as u64), &mut input)?;
     let frame = input.as_slice();
     println!(out; "{:02x}", frames::answered(frame))?;

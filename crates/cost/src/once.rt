@@ -1,11 +1,11 @@
-// One call each, outside the loops, of what these count. A function that is called from one place is compiled into its caller there; called from
-// two places it is a call, as it is for a customer's program.
+// One call each, outside the loops, of what these count. A function that is called from one place is compiled into its caller there;
+// called from two places it is a call, as it is for a customer's program.
 use crate::{figures, readings};
 use ask::PLATE;
 
 pub fn each() -> u64 {
-    let new = figures::new();
-    let answered = new.after(new.latest);
+    let meter = figures::new();
+    let answered = meter.after(meter.latest);
     let mut frame = [0u8; 256];
     crc::put(&mut frame, 254);
     let host = u64::from(eight::of(&frame));

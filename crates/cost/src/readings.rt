@@ -12,8 +12,12 @@ const READ_FROM: usize = 0;
 
 const READ_ITEMS: usize = 28;
 
-// What is read, again and again, of a meter's reply to a request. It stays a call: where it is compiled into `main`, so is the judgement
-// into its loop, and a reading counts 105 instructions less.
+// The cells of either row that a whole read is lent.
+const CELLS: usize = 64;
+
+// What is read, again and again, of a meter's reply to a request. It stays a call: where it is compiled into `main`, so is the
+// judgement into its loop, and a reading counts 105 instructions less.
+// Stays spelled out, as in other programs: they print frame and reply, which would be counted here.
 #[inline(never)]
 pub fn collected<F>(request: &[u8], read: F) -> u64
 where
@@ -37,8 +41,8 @@ pub fn wholly(exchange: Exchange<'_>) -> u64 {
         reply,
         plate,
     } = exchange;
-    let mut values = [0u64; 64];
-    let mut kinds = [0u8; 64];
+    let mut values = [0u64; CELLS];
+    let mut kinds = [0u8; CELLS];
     let mut sum = 0;
     for _ in 0..WHOLE_TURNS {
         sum |= items(collector::read_whole(request, reply, plate, &mut values, &mut kinds));
@@ -48,6 +52,7 @@ pub fn wholly(exchange: Exchange<'_>) -> u64 {
 
 pub fn items(whole: Result<usize, Unread>) -> u64 {
     match whole {
+        // Stays a cast: a usize has no From to u64.
         Ok(n) => n as u64,
         Err(Unread::Error(code)) => u64::from(code.number()),
         Err(Unread::Refused(reason)) => u64::from(reason.number()),

@@ -23,9 +23,10 @@ fn main(rt: HostRuntime) -> io::Result<()> {
 fn rows(out: Stdout) -> io::Result<()> {
     let directory = own::directory();
     let mut block = None;
+    // Stays a loop over indices: the directory lends an item by its index, and has no iterator.
     for i in 0..own::ITEMS {
         let it = directory.item(i);
-        let upper = it.start / 256;
+        let [upper, _] = it.start.to_be_bytes();
         if block != Some(upper) {
             heading(out, upper)?;
             block = Some(upper);
@@ -35,7 +36,7 @@ fn rows(out: Stdout) -> io::Result<()> {
     Ok(())
 }
 
-fn heading(out: Stdout, block: u16) -> io::Result<()> {
+fn heading(out: Stdout, block: u8) -> io::Result<()> {
     println!(out;
         "\n## From 0x{block:02x}00\n\n\
         | address | sent as | words | what it shows | unit or values |\n\

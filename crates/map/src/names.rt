@@ -1,4 +1,5 @@
 // What a quantity is called: by its kind, and where the kind has several, by which it is.
+// Goes by the numbers of the table.
 use directory::quantity::*;
 use std::fmt::{self, Display};
 

@@ -1,4 +1,5 @@
 // The unit in which a quantity is sent, or its values: by its kind, and where the kind has several, by which it is.
+// Goes by the numbers of the table.
 use directory::quantity::*;
 
 pub fn of(quantity: u16) -> &'static str {
@@ -9,8 +10,8 @@ pub fn of(quantity: u16) -> &'static str {
         POWER => power(which),
         SIGNED_POWER => signed_power(which),
         ENERGY_COUNT => "steps",
-        LOW => low(which),
-        HIGH => high(which),
+        LOW => by_sort(which, "Wh", "varh"),
+        HIGH => by_sort(which, "10^6 Wh", "10^6 varh"),
         WRAP => "10^8 steps",
         FACTOR => factor(which),
         SIGN => "0, or 1 if negative",
@@ -40,17 +41,11 @@ fn signed_power(which: u16) -> &'static str {
     }
 }
 
-fn low(which: u16) -> &'static str {
+// An energy is active or reactive.
+fn by_sort(which: u16, active: &'static str, reactive: &'static str) -> &'static str {
     match which {
-        POS_EA | NEG_EA => "Wh",
-        _ => "varh",
-    }
-}
-
-fn high(which: u16) -> &'static str {
-    match which {
-        POS_EA | NEG_EA => "10^6 Wh",
-        _ => "10^6 varh",
+        POS_EA | NEG_EA => active,
+        _ => reactive,
     }
 }
 

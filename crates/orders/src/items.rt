@@ -10,6 +10,7 @@ pub fn read(out: Stdout, exchange: Exchange<'_>) -> io::Result<()> {
 }
 
 // The kinds that are asked for.
+// Stays a type of its own: each program has its own words for a reading.
 #[derive(Clone, Copy)]
 struct Figure(Quantity);
 

@@ -1,6 +1,7 @@
 // Which word of a long goes first (paper 02, request 5), through a board and a collector: what meters of either order send at both of
 // their addresses, and what a collector makes of it that is told the same order or the other. What each example comes to is printed,
 // and held to the file `stdout`.
+// The stream and the meter stay two arguments: each example hands its own meter on to the next.
 #![tactic(auto)]
 
 mod items;
@@ -8,6 +9,7 @@ mod meters;
 mod reads;
 mod rows;
 
+use ask::Exchange;
 use board::Meter;
 use meters::ORDERS;
 use reads::{AT_OWN, AT_SECOND, COUNT, LONGS, Read, SEVERAL, SINGLE_WORDS};
@@ -27,10 +29,7 @@ fn examples(out: Stdout, m: Meter) -> io::Result<()> {
     first_items(out, m, &LONGS)?;
     energies(out, m)?;
     first_items(out, m, &SINGLE_WORDS)?;
-    for read in &SEVERAL {
-        read.told(out, m, rows::read)?;
-    }
-    Ok(())
+    each(out, m, &SEVERAL, rows::read)
 }
 
 // Counts of 1,525, 1,526 and 65,537. In the wrong order 1,525 is another count, and 1,526 is past the top of one.
@@ -42,8 +41,17 @@ fn energies(out: Stdout, m: Meter) -> io::Result<()> {
 }
 
 fn first_items(out: Stdout, m: Meter, reads: &[Read]) -> io::Result<()> {
+    each(out, m, reads, items::read)
+}
+
+// What is told of each read.
+fn each<F>(out: Stdout, m: Meter, reads: &[Read], tell: F) -> io::Result<()>
+where
+    F: Fn(Stdout, Exchange<'_>) -> io::Result<()> + Copy,
+    requires { F.IsAlwaysCallable tell }
+{
     for read in reads {
-        read.told(out, m, items::read)?;
+        read.told(out, m, tell)?;
     }
     Ok(())
 }

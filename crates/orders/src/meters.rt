@@ -1,12 +1,7 @@
 // The meters that are read, after one sample, and what a collector is told of them.
-use ask::{DIRECT, PLATE};
+use ask::{DIRECT, OWN, PLATE, SECOND};
 use board::{Given, Meter, Order, Powers, Sample};
 use collector::Nameplate;
-
-// A meter's own address, and the one that a tenant reads it by.
-pub const OWN: u8 = 1;
-
-pub const SECOND: u8 = 9;
 
 // Both orders, in words.
 pub const ORDERS: [(Order, &str); 2] = [
@@ -19,6 +14,7 @@ pub fn plate(order: Order) -> Nameplate {
 }
 
 // A meter that names its order, and a second address. An energy register counts steps of 10 Wh.
+// Stays beside the other programs' new meters: each names what its own examples change of `Given`.
 pub fn named(order: Order) -> Meter {
     let made = Meter::of(Given {
         address: OWN,

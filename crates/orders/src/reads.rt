@@ -1,6 +1,6 @@
 // Reads of a meter, and what a collector makes of each reply that is told one order and that is told the other.
-use crate::meters::{self, ORDERS, OWN, SECOND};
-use ask::{Exchange, REPLY_ROOM};
+use crate::meters::{self, ORDERS};
+use ask::{Exchange, OWN, REPLY_ROOM, SECOND};
 use board::Meter;
 use say::Bytes;
 use std::io::{self, Stdout};
@@ -111,6 +111,7 @@ pub static SEVERAL: [Read; 3] = [
 
 impl Read {
     // The frame, what the meter answers, and what is told of the reply in either order.
+    // Stays spelled out, as in other programs: each prints something else of the frame and the reply.
     pub fn told<F>(self, out: Stdout, m: Meter, tell: F) -> io::Result<()>
     where
         F: Fn(Stdout, Exchange<'_>) -> io::Result<()>,

@@ -1,12 +1,7 @@
 // All items of a reply, in two rows of three cells: every cell, and so also one that is not written.
-use ask::{Exchange, Items};
+use ask::{Exchange, Items, KIND_MARK, VALUE_MARK};
 use say::Row;
 use std::io::{self, Stdout};
-
-// No kind has this number, and no item of the examples reads as it.
-const VALUE_MARK: u64 = 99;
-
-const KIND_MARK: u8 = 99;
 
 pub fn read(out: Stdout, exchange: Exchange<'_>) -> io::Result<()> {
     let mut values = [VALUE_MARK; 3];

@@ -6,6 +6,7 @@ use std::fmt::{self, Display};
 use std::io::{self, Stdout};
 
 // A request, the reply to it, what the collector is told of the meter, and how many items are read.
+// Stays flat, with no Exchange inside: so an example names just what differs from another. `rows` counts something else of its own.
 #[derive(Clone, Copy)]
 pub struct Poll {
     pub name: &'static str,
@@ -39,6 +40,7 @@ impl Poll {
 }
 
 // A reading behind its name and unit.
+// Stays a type of its own: each program has its own words for a reading.
 #[derive(Clone, Copy)]
 struct Figure(Quantity);
 

@@ -43,6 +43,7 @@ fn energy(out: Stdout, energy: WattHours) -> io::Result<()> {
         "{} Wh: register {}, wrap {wrap}, Low {low}, High {high}",
         energy.0, register.0
     )?;
+    // Stays remainders: of these energies the wrap has 16 bits and High 32, and a conversion that may fail would print no more.
     let by_register = collector::join(BY_THOUSANDS, register, (wrap % 65536) as u16);
     let by_halves = collector::join_halves(low, (high % 4_294_967_296) as u32);
     println!(out; ", joined {} and {}", told(by_register), told(by_halves))

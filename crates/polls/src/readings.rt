@@ -1,4 +1,5 @@
 // The documents' replies, and some of our own making: between them they show every kind of reading.
+// The frames stay spelled out here and in `rows`: so each table is read alone.
 use crate::answers::Poll;
 use ask::PLATE;
 use collector::{Nameplate, Ratios};

@@ -1,5 +1,6 @@
 // 003's read of 100 V, then the same with one thing wrong at a time: each reason to refuse a reading. 12 stands at the end of
 // 003's two voltages, and 13 takes a read of its own.
+// The frames stay spelled out here and in `rows`: so each table is read alone.
 use crate::answers::Poll;
 use ask::PLATE;
 use collector::{Nameplate, Ratios};

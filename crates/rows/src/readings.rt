@@ -1,5 +1,6 @@
 // The replies that `polls` reads item by item, under the same names: every kind of reading is among them. The rows have one cell
 // more than there are items, which stays.
+// The frames stay spelled out here and in `polls`: so each table is read alone.
 use crate::rows::Poll;
 use ask::PLATE;
 use collector::{Nameplate, Ratios};

@@ -1,5 +1,6 @@
 // 003's read of 100 V, then the same with one thing wrong at a time: each reason to refuse a reply, and the error code. No cell may
 // change. 12 cannot occur, 13 takes a read of its own, and 15 is in `short`.
+// The frames stay spelled out here and in `polls`: so each table is read alone.
 use crate::rows::Poll;
 use ask::PLATE;
 use collector::{Nameplate, Ratios};

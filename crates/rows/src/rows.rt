@@ -1,18 +1,14 @@
 // One call on rows of marks, and what it leaves in every cell.
-use ask::Items;
+use ask::{Items, KIND_MARK, VALUE_MARK};
 use collector::Nameplate;
 use say::Row;
 use std::io::{self, Stdout};
-
-// No kind has this number, and no item of the examples reads as it: a cell that shows it was not written.
-const VALUE_MARK: u64 = 99;
-
-const KIND_MARK: u8 = 99;
 
 // The cells of the longest rows lent: the 9 words from 0x0339 are 8 items.
 const CELLS_MOST: usize = 9;
 
 // A request, the reply to it, what the collector is told of the meter, and the cells that each row has, CELLS_MOST at the most.
+// Stays flat, with no Exchange inside: so an example names just what differs from another. `polls` counts something else of its own.
 #[derive(Clone, Copy)]
 pub struct Poll {
     pub name: &'static str,

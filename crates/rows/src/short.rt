@@ -1,5 +1,6 @@
 // 003's two voltages in rows that have a cell for each, or too few. A meter's error code takes no cells, and so is told before a short
 // row is; an impossible value is told after it.
+// The frames stay spelled out here and in `polls`: so each table is read alone.
 use crate::rows::Poll;
 use ask::PLATE;
 

@@ -5,7 +5,8 @@
 use std::fmt::{self, Display};
 
 // Bytes in hexadecimal, a space before each.
-#[derive(Clone, Copy)]
+// Stays beside `Row`: a byte's own Display is decimal, and these are printed in two hexadecimal digits.
+#[derive(Clone, Copy, Debug, PartialEq, Eq)]
 pub struct Bytes<'a>(pub &'a [u8]);
 
 impl<'a> Display for Bytes<'a> {
@@ -18,7 +19,7 @@ impl<'a> Display for Bytes<'a> {
 }
 
 // Values in a row, a space before each.
-#[derive(Clone, Copy)]
+#[derive(Clone, Copy, Debug, PartialEq, Eq)]
 pub struct Row<'a, T>(pub &'a [T]);
 
 impl<'a, T: Display> Display for Row<'a, T> {
@@ -31,7 +32,7 @@ impl<'a, T: Display> Display for Row<'a, T> {
 }
 
 // What came of a call: its value, or why there is none.
-#[derive(Clone, Copy)]
+#[derive(Clone, Copy, Debug, PartialEq, Eq)]
 pub struct Told<T, E>(pub Result<T, E>);
 
 impl<T: Display, E: Display> Display for Told<T, E> {

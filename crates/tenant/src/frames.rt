@@ -1,19 +1,13 @@
 // Frames to a meter that a tenant reads too, and what it answers.
-use ask::{Exchange, PLATE, REPLY_ROOM};
+use ask::{Exchange, OWN, PLATE, REPLY_ROOM, SECOND};
 use board::Meter;
 use collector::Quantity;
 use say::Told;
 use std::fmt::{self, Display};
 use std::io::{self, Stdout};
 
-// The meter's own address.
-pub const OWN: u8 = 1;
-
-// The one that the tenant reads it by.
-pub const SECOND: u8 = 9;
-
 // A tenant's read, and its reply.
-pub fn ask(out: Stdout, m: Meter, start: u16, words: u8, name: &str) -> io::Result<()> {
+pub fn read(out: Stdout, m: Meter, start: u16, words: u8, name: &str) -> io::Result<()> {
     ask::send(out, m, name, &ask::read(SECOND, start, words))?;
     Ok(())
 }
@@ -25,6 +19,7 @@ pub fn write(out: Stdout, m: Meter, name: &str, address: u8, word: u8) -> io::Re
 }
 
 // A tenant's read, and what the collector makes of the first item of its reply.
+// Stays spelled out, as in other programs: each prints something else of the frame and the reply.
 pub fn collect(out: Stdout, m: Meter, start: u16, words: u8, name: &str) -> io::Result<()> {
     let request = ask::read(SECOND, start, words);
     let mut buffer = [0u8; REPLY_ROOM];
@@ -41,6 +36,7 @@ pub fn collect(out: Stdout, m: Meter, start: u16, words: u8, name: &str) -> io::
 }
 
 // A voltage or an energy: no other reading is asked for.
+// Stays a type of its own: each program has its own words for a reading.
 #[derive(Clone, Copy)]
 struct Figure(Quantity);
 

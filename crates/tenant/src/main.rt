@@ -1,10 +1,12 @@
 // A meter's second address (paper 02, request 3), through a board and a collector: what a tenant reads by it, and what is hidden from
 // it. What each example comes to is printed, and held to the file `stdout`.
+// The stream and the meter stay two arguments: each example hands its own meter on to the next.
 #![tactic(auto)]
 
 mod frames;
 mod meters;
 
+use ask::{OWN, SECOND};
 use board::Meter;
 use std::io::{self, Stdout};
 
@@ -22,14 +24,14 @@ fn main(rt: HostRuntime) -> io::Result<()> {
 
 // Data, what is wrong with a read, and two that no one hears.
 fn reads(out: Stdout, m: Meter) -> io::Result<()> {
-    frames::ask(out, m, 0x0301, 2, "2 words from 0x0301")?;
-    frames::ask(out, m, 0x1000, 2, "2 words from 0x1000")?;
+    frames::read(out, m, 0x0301, 2, "2 words from 0x0301")?;
+    frames::read(out, m, 0x1000, 2, "2 words from 0x1000")?;
     frames::collect(out, m, 0x1000, 2, "  collected: ")?;
-    frames::ask(out, m, 0x101C, 2, "2 words from 0x101c")?;
+    frames::read(out, m, 0x101C, 2, "2 words from 0x101c")?;
     frames::collect(out, m, 0x101C, 2, "  collected: ")?;
-    frames::ask(out, m, 0x1000, 1, "half of an L")?;
-    frames::ask(out, m, 0x1001, 2, "a start inside an L")?;
-    frames::ask(out, m, 0x1000, 0, "no words")?;
+    frames::read(out, m, 0x1000, 1, "half of an L")?;
+    frames::read(out, m, 0x1001, 2, "a start inside an L")?;
+    frames::read(out, m, 0x1000, 0, "no words")?;
     ask::send(out, m, "a read of 7 bytes", b"\x09\x03\x10\x00\x02\x78\x41")?;
     ask::send(out, m, "a wrong CRC", b"\x09\x03\x03\x01\x00\x02\x94\xC6")?;
     ask::send(out, m, "a read to 5", &ask::read(5, 0x0301, 2))?;
@@ -49,31 +51,31 @@ fn functions(out: Stdout, m: Meter) -> io::Result<()> {
 
 // One write to each address: only the tenant's is not stored.
 fn writes(out: Stdout, m: Meter) -> io::Result<()> {
-    let own = frames::write(out, m, "6 written to the meter", frames::OWN, 6)?;
-    let tenant = frames::write(out, own, "7 written by the tenant", frames::SECOND, 7)?;
+    let own = frames::write(out, m, "6 written to the meter", OWN, 6)?;
+    let tenant = frames::write(out, own, "7 written by the tenant", SECOND, 7)?;
     let all = frames::write(out, tenant, "8 written to all meters", 0, 8)?;
-    frames::write(out, all, "9 written by the tenant", frames::SECOND, 9)?;
+    frames::write(out, all, "9 written by the tenant", SECOND, 9)?;
     Ok(())
 }
 
 // What a tenant sees of the directory: each block up to its end, and no item that only the owner has. The collector knows the whole
 // directory, so it is the meter that tells it what is hidden. How many words are asked for is looked at first.
 fn view(out: Stdout, m: Meter) -> io::Result<()> {
-    frames::ask(out, m, 0x0100, 2, "2 words from 0x0100")?;
-    frames::ask(out, m, 0x0300, 69, "69 words from 0x0300")?;
-    frames::ask(out, m, 0x0300, 70, "70 words from 0x0300")?;
-    frames::ask(out, m, 0x037A, 1, "1 word from 0x037a")?;
-    frames::ask(out, m, 0x037A, 2, "2 words from 0x037a")?;
-    frames::ask(out, m, 0x1000, 62, "62 words from 0x1000")?;
-    frames::ask(out, m, 0x1000, 63, "63 words from 0x1000")?;
-    frames::ask(out, m, 0x103C, 2, "2 words from 0x103c")?;
-    frames::ask(out, m, 0x103C, 3, "3 words from 0x103c")?;
-    frames::ask(out, m, 0x103D, 1, "1 word from 0x103d")?;
-    frames::ask(out, m, 0x1200, 1, "KTA at 0x1200")?;
+    frames::read(out, m, 0x0100, 2, "2 words from 0x0100")?;
+    frames::read(out, m, 0x0300, 69, "69 words from 0x0300")?;
+    frames::read(out, m, 0x0300, 70, "70 words from 0x0300")?;
+    frames::read(out, m, 0x037A, 1, "1 word from 0x037a")?;
+    frames::read(out, m, 0x037A, 2, "2 words from 0x037a")?;
+    frames::read(out, m, 0x1000, 62, "62 words from 0x1000")?;
+    frames::read(out, m, 0x1000, 63, "63 words from 0x1000")?;
+    frames::read(out, m, 0x103C, 2, "2 words from 0x103c")?;
+    frames::read(out, m, 0x103C, 3, "3 words from 0x103c")?;
+    frames::read(out, m, 0x103D, 1, "1 word from 0x103d")?;
+    frames::read(out, m, 0x1200, 1, "KTA at 0x1200")?;
     frames::collect(out, m, 0x1200, 1, "  collected: ")?;
-    frames::ask(out, m, 0x1500, 2, "Low at 0x1500")?;
-    frames::ask(out, m, 0x2000, 16, "setup at 0x2000")?;
+    frames::read(out, m, 0x1500, 2, "Low at 0x1500")?;
+    frames::read(out, m, 0x2000, 16, "setup at 0x2000")?;
     frames::collect(out, m, 0x2000, 16, "  collected: ")?;
-    frames::ask(out, m, 0x1200, 120, "120 words from 0x1200")?;
-    frames::ask(out, m, 0x1200, 121, "121 words from 0x1200")
+    frames::read(out, m, 0x1200, 120, "120 words from 0x1200")?;
+    frames::read(out, m, 0x1200, 121, "121 words from 0x1200")
 }

@@ -1,10 +1,11 @@
 // Meters with a second address, without one, and out of limits by one.
 use crate::frames;
-use ask::{GIVEN, Taken};
+use ask::{GIVEN, OWN, SECOND, Taken};
 use board::{Answered, Given, Meter, Powers, Ratios, Sample, Setup};
 use std::io::{self, Stdout};
 
 // A new meter of these addresses.
+// Stays beside the other programs' new meters: each names what its own examples change of `Given`.
 fn new(kta: u16, address: u8, second: u8) -> Answered {
     Meter::of(Given {
         address,
@@ -16,7 +17,7 @@ fn new(kta: u16, address: u8, second: u8) -> Answered {
 
 // The meter that a tenant reads too, after one sample. Q of phase 3 is negative, so that the last sign of either block is 1.
 pub fn read_by_two() -> Meter {
-    let mut m = new(1, frames::OWN, frames::SECOND).meter;
+    let mut m = new(1, OWN, SECOND).meter;
     m.counters.active.positive.wh.0 = 12_345;
     m.counters.reactive.negative.wh.0 = 678_900;
     let sample = Sample {
@@ -41,7 +42,7 @@ pub fn new_meters(out: Stdout) -> io::Result<()> {
     answer(out, "addresses 1 and 1", new(1, 1, 1))?;
     answer(out, "addresses 0 and 0", new(1, 0, 0))?;
     answer(out, "KTA 0, addresses 1 and 1", new(0, 1, 1))?;
-    let made = new(1, frames::OWN, Given::NO_SECOND);
+    let made = new(1, OWN, Given::NO_SECOND);
     answer(out, "address 1 alone", made)?;
     let m = made.meter;
     ask::send(out, m, "  a read to 0", &ask::read(0, 0x0301, 2))?;
@@ -52,15 +53,15 @@ pub fn new_meters(out: Stdout) -> io::Result<()> {
 // A record whose second address has become its own, and a buffer that is too short for the tenant's reply.
 pub fn refused(out: Stdout, m: Meter) -> io::Result<()> {
     let mut outside = m;
-    outside.given.second = frames::OWN;
-    let request = ask::read(frames::OWN, 0x0301, 2);
+    outside.given.second = OWN;
+    let request = ask::read(OWN, 0x0301, 2);
     ask::send(out, outside, "a second address of 1, a frame", &request)?;
     answer(
         out,
         "a second address of 1, a sample",
         outside.after(m.latest),
     )?;
-    let good = ask::read(frames::SECOND, 0x0301, 2);
+    let good = ask::read(SECOND, 0x0301, 2);
     let mut buffer = [0u8; 255];
     if let Err(reason) = board::handle(m, &good, &mut buffer).reply {
         println!(out; "a buffer of 255 bytes, {reason}")?;
@@ -81,12 +82,12 @@ pub fn alike(out: Stdout, m: Meter) -> io::Result<()> {
     let two = unlike(one);
     ask::send(out, one, "0x2003 at 1", &ask::read(1, 0x2003, 1))?;
     ask::send(out, two, "  at 200", &ask::read(200, 0x2003, 1))?;
-    frames::ask(out, one, 0x0301, 2, "0x0301 at 9")?;
-    frames::ask(out, two, 0x0301, 2, "  of the other")?;
-    frames::ask(out, one, 0x101C, 8, "0x101c at 9")?;
-    frames::ask(out, two, 0x101C, 8, "  of the other")?;
-    frames::ask(out, one, 0x1027, 5, "0x1027 at 9")?;
-    frames::ask(out, two, 0x1027, 5, "  of the other")
+    frames::read(out, one, 0x0301, 2, "0x0301 at 9")?;
+    frames::read(out, two, 0x0301, 2, "  of the other")?;
+    frames::read(out, one, 0x101C, 8, "0x101c at 9")?;
+    frames::read(out, two, 0x101C, 8, "  of the other")?;
+    frames::read(out, one, 0x1027, 5, "0x1027 at 9")?;
+    frames::read(out, two, 0x1027, 5, "  of the other")
 }
 
 // Another own address, other setup words, other remainders and another open sum.

@@ -14,6 +14,7 @@ pub fn examples(out: Stdout) -> io::Result<()> {
 }
 
 // A new meter. Paper 01's examples have the upper word first.
+// Stays beside the other programs' new meters: each names what its own examples change of `Given`.
 pub fn made(address: u8, ratios: Ratios) -> Meter {
     Meter::of(Given {
         address,
@@ -113,12 +114,12 @@ fn show(out: Stdout, m: Meter, quantities: &[u16]) -> io::Result<()> {
 
 // Each refusal of a new meter, of a sample and of a frame, once.
 pub fn refusals(out: Stdout) -> io::Result<()> {
-    let new = new();
-    let full = full();
+    let meter = new();
+    let outside = full();
     let top = counted(Meter::WH_TOP);
     let odd = Sample {
         sector: 3,
-        ..new.latest
+        ..meter.latest
     };
     let answers = [
         (
@@ -126,11 +127,14 @@ pub fn refusals(out: Stdout) -> io::Result<()> {
             Meter::new(0, Ratios { kta: 0, ..DIRECT }).answer,
         ),
         ("address 0", Meter::new(0, DIRECT).answer),
-        ("a remainder of 360000", full.after(full.latest).answer),
-        ("a sector of 3", new.after(odd).answer),
+        (
+            "a remainder of 360000",
+            outside.after(outside.latest).answer,
+        ),
+        ("a sector of 3", meter.after(odd).answer),
         (
             "phases of -2^63 hundredths",
-            new.after(sample(each_phase(i64::MIN), 0)).answer,
+            meter.after(sample(each_phase(i64::MIN), 0)).answer,
         ),
         // At the top the remainder may still fill; one more Wh is refused.
         (

@@ -13,6 +13,7 @@ pub const BYTE_BLOCK: u16 = 0x0350;
 pub const WORD_BLOCK: u16 = 0x1027;
 
 // A new meter without voltage transformers.
+// Stays beside the other programs' new meters: each names what its own examples change of `Given`.
 pub fn new(kta: u16) -> Meter {
     let ratios = Ratios { kta, ktv: 10 };
     Meter::of(Given { ratios, ..GIVEN }).meter
@@ -45,6 +46,7 @@ fn run(out: Stdout, m: Meter, seconds: u32, l1: i64) -> io::Result<Meter> {
 }
 
 // The three figures by one read.
+// Stays spelled out, as in other programs: each prints something else of the frame and the reply.
 pub fn show(out: Stdout, m: Meter, start: u16, name: &str) -> io::Result<()> {
     let request = frames::read(start, 5);
     let mut buffer = [0u8; REPLY_ROOM];
@@ -74,6 +76,7 @@ pub fn item(exchange: Exchange<'_>, index: usize) -> Told<Figure, Unread> {
 }
 
 // A power in hundredths of W, or a plain word: nothing else is asked for.
+// Stays a type of its own: each program has its own words for a reading.
 #[derive(Clone, Copy)]
 pub struct Figure(Quantity);
 

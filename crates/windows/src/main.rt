@@ -1,5 +1,6 @@
 // Average power, its peak and the minutes of the open window (paper 02, request 1), through a board and a collector: what each
 // example comes to is printed, and held to the file `stdout`.
+// The stream and the meter stay two arguments: each example hands its own meter on to the next.
 #![tactic(auto)]
 
 mod codes;
