@@ -1,20 +1,19 @@
 -- Where the words of an item stand: behind those of the items before it.
-use mathlib.Core.Path.{◌≡◌, refl, ap, ◌∙◌}
-use mathlib.Core.Bool.{Bool, true, false}
+use mathlib.Core.Path.{◌≡◌, ap, ◌∙◌}
+use mathlib.Core.Bool.{true}
 use mathlib.Core.List.{List, [], ◌∷◌}
 use Prim.Native.Nat.{ℕ, zero, suc, ◌+◌, ◌*◌, ◌≤◌, ◌<◌}
 use native.Mathlib.Omega.{arith}
-use lib.Dec.{T}
 use lib.ListN.{length, get_or, take, drop, length-drop}
 use lib.Seq.{get_or-take, get_or-drop, length-take-le}
-use borrow.Author.Tests.{eqb-true, lt-ltb, le-ltb}
+use borrow.Author.Tests.{lt-ltb, le-ltb}
 use Rattle.refusal.specs.declared.Refusal.TheVariants.{IndexPastItems}
 use Rattle.words.specs.declared.Order.{Order}
 use Rattle.words.specs.Words.{value_at}
 use Rattle.directory.specs.declared.Item.{Item}
 use Rattle.directory.specs.Item.{none}
-use Rattle.directory.specs.Order.{every, shaped, meant}
-use Rattle.directory.specs.Run.{is_l, run_items, words_of}
+use Rattle.directory.specs.Order.{shaped, meant}
+use Rattle.directory.specs.Run.{run_items, words_of}
 use Rattle.directory.specs.Views.{Asked}
 use Rattle.directory.proofs.Order.{Narrow, every_at}
 use Rattle.directory.proofs.Shapes.{shape_narrow}

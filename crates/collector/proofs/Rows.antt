@@ -7,7 +7,8 @@ use native.Mathlib.Omega.{arith}
 use lib.Dec.{T, ltb}
 use lib.ListN.{length, get_or}
 use lib.Seq.{sets}
-use Rattle.std.specs.Prelude.{Result, Ok, Err}
+use Rattle.std.specs.Prelude.{Result, Ok, Err, cond}
+use Rattle.std.proofs.lemmas.Result.{IfErr-at_err}
 use Rattle.refusal.specs.declared.Refusal.TheVariants.{ValueImpossible, RowShort}
 use Rattle.ratio.specs.declared.Ratios.{Ratios}
 use Rattle.ratio.specs.Ratios.{t_of}
@@ -102,3 +103,29 @@ counted (it ∷ its) some = omega (arith, some 0 (omega arith), counted its (λ 
 
 pub few_items : (its : List Item) → T (every shaped its) → length its ≤ words_of its
 few_items its t = counted its (λ i below. (shape_narrow (get_or its i none) (every_at shaped its t i below)).some)
+
+-- ---- a test, and the result that it leads to
+
+module _ {A E : Type 0} where
+  -- the refusal where the test is met
+  abbrev pub verdict : Bool → E → A → Result A E
+  verdict b e x = cond b (Err e) (Ok x)
+
+  pub refusing : {b : Bool} (e : E) (x : A) → b ≡ true → verdict true e x ≡ verdict b e x
+  refusing e x h = rw h refl
+
+  pub passing : {b : Bool} (e : E) (x : A) → b ≡ false → verdict false e x ≡ verdict b e x
+  passing e x h = rw h refl
+
+  pub not_both : {e : E} {x : A} → verdict true e x ≡ verdict false e x → ⊥
+  not_both {e = e} {x = x} h = IfErr-at_err (λ _. ⊥) {r = verdict false e x} (sym h) tt
+
+  -- a result is that of the test, so the test was not met
+  pub passed : (b : Bool) (e : E) (x y : A) (r : Result A E) → r ≡ verdict b e x → r ≡ verdict false e y → (b ≡ false) × (r ≡ verdict false e x)
+  passed true e x y r h k = absurd (not_both (sym h ∙ k))
+  passed false e x y r h k = (refl, h)
+
+  -- or it was met, and this is its refusal
+  pub refused : (b : Bool) (e d : E) (x : A) (r : Result A E) → r ≡ verdict b e x → r ≡ verdict true d x → (b ≡ true) × (d ≡ e)
+  refused true e d x r h k = (refl, IfErr-at_err (λ (z : E). z ≡ e) {r = verdict true e x} (sym h ∙ k) refl)
+  refused false e d x r h k = absurd (not_both (sym k ∙ h))

@@ -1,3 +1,4 @@
 pub mod Collector
+pub mod Each
 pub mod When
 pub mod Whole

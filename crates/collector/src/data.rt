@@ -11,8 +11,8 @@ use reading::Answer;
 use refusal::Refusal;
 use words::Order;
 
-// The items asked for, the reply that has their words, and what these are read by: the order of the words of a long, and the ratio of the
-// meter in tenths.
+// The items asked for, the reply that has their words, and what these are read by: the order of the words of a long, and the ratio
+// of the meter in tenths.
 #[derive(Drop)]
 pub(crate) struct Data<'a> {
     pub(crate) asked: Items<'a>,
@@ -24,6 +24,7 @@ pub(crate) struct Data<'a> {
 
 impl<'a> Data<'a> {
     // The reading of one item.
+    // The clause is spelled out: `items_in` speaks of `Data`, whose ghost field lets no such definition be named in this file.
     pub(crate) fn item(&self, index: usize) -> Answer
         ensures { result ≡ item_of self.now.order self.now.tenths self.now.asked self.now.reply.now index }
     {
@@ -36,6 +37,7 @@ impl<'a> Data<'a> {
     }
 
     // Where the words of an item start in the reply: behind those of the items before it.
+    // Stays an index loop: items are lent by index, and a borrowed model hands out no iterator over them.
     fn place(&self, index: usize) -> usize
         requires { index ≤ length self.now.asked }
         ensures { result ≡ place_of self.now.asked index }
@@ -49,6 +51,7 @@ impl<'a> Data<'a> {
 
     // What an item of the directory reads as whose words start at a place.
     // Inlined: as a call of its own it cost a whole reply of 28 items 50 instructions.
+    // The item's width and rules stay clauses: its fields are public, so its type can't promise them.
     #[inline(always)]
     pub(crate) fn reading(&self, it: Item, at: usize) -> Answer
         requires words_there { (at + 2 * it.words ≤ length self.now.reply.now) × ((1 ≤ it.words) × (it.words ≤ 2)) }

@@ -21,7 +21,7 @@ pub use whole::read_whole;
 pub use words::Order;
 
 // What a collector is told of the meter that it asks: the transformer ratios, and which word of a long goes first.
-#[derive(Clone, Copy)]
+#[derive(Clone, Copy, Debug, PartialEq, Eq)]
 pub struct Nameplate {
     pub ratios: Ratios,
     pub order: Order,

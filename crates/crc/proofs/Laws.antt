@@ -1,4 +1,5 @@
--- A frame passes the test exactly when it is sealed, since a frame of two bytes or more is what stands before its last two, and then those two.
+-- A frame passes the test exactly when it is sealed, since a frame of two bytes or more is what stands before its last two, and then
+-- those two.
 -- Whoever knows the CRC of what stands before them has only these two to look at.
 -- With room, `put` seals the first n bytes, since the two bytes that it stores stand between them and what is left as it was.
 -- The CRC of bytes fits 16 bits, since neither a right shift nor an exclusive-or of 16-bit numbers makes a longer one.

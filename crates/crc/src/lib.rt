@@ -52,6 +52,7 @@ pub fn ends_in(frame: &[u8], crc: u16) -> bool
 
 // Puts the CRC of the first n bytes behind them, low byte first. If there is no room, it changes nothing and answers false.
 // Stays a bool: there is one reason, and `Put` says what either answer means.
+// The buffer and n stay two arguments: the public call names both, and the CRC goes into the room behind the n bytes.
 pub fn put(buffer: &mut [u8], n: usize) -> bool
     ensures { Put buffer.old n result buffer.new }
 {

@@ -1,5 +1,5 @@
--- Eight bytes at once. A byte that comes in after n shifts may as well come in before them, n places up, so eight bytes are 64 shifts of one
--- number. What the code makes of eight bytes is 64 shifts, since it is so at each power of two.
+-- Eight bytes at once. A byte that comes in after n shifts may as well come in before them, n places up, so eight bytes are 64 shifts
+-- of one number. What the code makes of eight bytes is 64 shifts, since it is so at each power of two.
 use mathlib.Core.Path.{◌≡◌, refl, sym, ap, ap₂, ◌∙◌}
 use mathlib.Core.Bool.{true, cond}
 use mathlib.Core.List.{List, [], ◌∷◌, ◌++◌}

@@ -1,5 +1,5 @@
--- What shifts, masks and exclusive-ors make of an exclusive-or is the exclusive-or of what they make of its two sides, for each of them keeps
--- to the bits. Two functions that do so are equal if they are equal at each power of two, and that antt computes.
+-- What shifts, masks and exclusive-ors make of an exclusive-or is the exclusive-or of what they make of its two sides, for each
+-- of them keeps to the bits. Two functions that do so are equal if they are equal at each power of two, and that antt computes.
 use mathlib.Core.Path.{◌≡◌, refl, sym, ap, ap₂, ◌∙◌}
 use mathlib.Core.Bool.{Bool, true, false, ◌&&◌, and-eq-true_iff}
 use Prim.Native.Nat.{ℕ, zero, suc, ◌-◌, ◌*◌, ◌/◌, ◌%◌, ◌^◌, ◌≤◌, ◌<◌}

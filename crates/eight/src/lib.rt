@@ -79,6 +79,7 @@ impl Parts {
 
 // The first 28 shifts. The upper 32 bits move down 28 places. Each of the lower 32 stays where it is and is put two places up as
 // well: for the remainder that is the same as 28 shifts, since t^30 is t^2 + 1.
+// The low bits stay a remainder, as the definition's `low` takes them; by a power of two the compiler makes a mask of it.
 fn folded(x: u64) -> u64
     ensures { result ≡ run folded x }
 {

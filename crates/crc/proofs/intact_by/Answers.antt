@@ -1,4 +1,5 @@
--- `intact_by` is the written test: a frame below two bytes fails it, and a longer one is held to the CRC of what stands before its last two bytes.
+-- `intact_by` is the written test: a frame below two bytes fails it, and a longer one is held to the CRC of what stands before its last
+-- two bytes.
 use Rattle.std.proofs.Common.{rules, refl, ap, ◌∙◌}
 use Rattle.std.specs.Fn.{FnReturnsAt}
 use Rattle.crc.specs.Crc.{crc_of}

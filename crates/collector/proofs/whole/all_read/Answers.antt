@@ -1,7 +1,6 @@
 -- In each turn one item more is read; the first that is refused ends it.
 use lib.ListN.{length, get_or}
-use Rattle.std.proofs.Common.{◌≡◌, refl, sym, ap, ap₂, subst, ◌∙◌, Bool, true, false, not, arith, add-one, List, [], ◌∷◌, ◌++◌, map, ℕ, ◌<◌}
-use mathlib.Core.Bool.{false≢true}
+use Rattle.std.proofs.Common.{◌≡◌, refl, sym, ap, ap₂, subst, ◌∙◌, Bool, true, false, arith, add-one, List, [], ◌∷◌, ◌++◌, map, ℕ, ◌<◌}
 use lib.Seq.{sets}
 use Rattle.refusal.specs.declared.Refusal.TheVariants.{ValueImpossible}
 use Rattle.words.specs.Words.{value_at}
@@ -20,6 +19,7 @@ use Rattle.collector.specs.Whole.{in_turn, is_thirteen}
 use Rattle.collector.proofs.When.{impossible, possible}
 use Rattle.collector.proofs.Places.{words_upto, words_within, known, item_reads}
 use Rattle.collector.proofs.Turns.{Read, read_length, read_none, read_all, read_next, any_at, laid_next}
+use Rattle.collector.proofs.Rows.{refusing, passing, not_both}
 use Rattle.collector.proofs.whole.all_read.Goals as goal
 
 -- the calls one by one
@@ -62,7 +62,7 @@ returns-in_default c =
     let read = called d l.i l.at c.at-it.result c.reading.result below l.invariant.1 c.at-it.ensures.value c.reading.ensures in
     let refused = unread d.tenths c.at-it.result _ c.reading.result c.reading.ensures c.in_default.not-Reading in
     let any = any_at (length d.asked) (ask d) l.i below (ap is_thirteen (sym read ∙ refused)) in
-    record { value = ap not (sym any); cells_after = λ h. absurd (false≢true h); numbers_after = λ h. absurd (false≢true h) }
+    record { value = refusing ValueImpossible tt any; cells_after = λ h. absurd (not_both h); numbers_after = λ h. absurd (not_both h) }
 
 pub overflow_add-at : goal.overflow_add-at
 overflow_add-at c =
@@ -102,7 +102,7 @@ returns c =
     let done : Read (length d.asked) (ask d) p.qs = subst (λ (j : ℕ). Read j (ask d) p.qs) all p.read in
     let same = sym (read_all (length d.asked) (ask d) p.qs done) in
     record {
-      value = ap not (sym (read_none (length d.asked) (ask d) p.qs done));
+      value = passing ValueImpossible tt (read_none (length d.asked) (ask d) p.qs done);
       cells_after = λ h. p.values ∙ ap (λ (qs : List Quantity). sets c.args.cells.now 0 (map cell_of qs)) same;
       numbers_after = λ h. p.kinds ∙ ap (λ (qs : List Quantity). sets c.args.numbers.now 0 (map kind_of qs)) same;
     }
