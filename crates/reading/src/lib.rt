@@ -45,7 +45,7 @@ pub enum Quantity {
     Wrap(u16),
     // In thousandths.
     Factor(Signed),
-    // 0 for zero or more, 1 for negative. Stays a number, as do sector and sequence: `told` and `cell` hand it on as the register has it.
+    // 0 for zero or more, 1 for negative. Stays the register's number, as do sector and sequence: `told` and `cell` hand it on so.
     Sign(u16),
     // 0 to 2.
     Sector(u16),
@@ -239,7 +239,7 @@ const WORD: u64 = 65_536;
 
 const LONG: u64 = 4_294_967_296;
 
-// Stays by hand: by `cast_signed` each width would have its own function, and a signed integer between that the definition is not over.
+// Stays by hand: by `cast_signed` each width has a function of its own, and an integer between that the definition is not over.
 // Two's complement. `full` is how many values the words can have; each of the upper half of them stands for value - full.
 fn signed_in(full: u64, value: u32) -> Signed
     requires { value ≤ full }

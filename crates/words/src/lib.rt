@@ -31,12 +31,13 @@ fn put_two(buffer: &mut [u8], at: usize, first: u16, second: u16)
     put_word(buffer, at + 2, second);
 }
 
-// Puts v at a place of the buffer: its lower 16 bits as one word, or all 32 as two in their order. How many words stays a number, here and
-// in `value_at`: it stands so in the directory's rows, and the laws of words are over any.
+// Puts v at a place of the buffer: its lower 16 bits as one word, or all 32 as two in their order. How many words stays a number,
+// here and in `value_at`: it stands so in the directory's rows, and the laws of words are over any.
 pub fn put(buffer: &mut [u8], at: usize, words: usize, order: Order, v: u32)
     requires { (at + 2 * words ≤ length buffer.old) × ((1 ≤ words) × (words ≤ 2)) }
     ensures { buffer.new ≡ sets buffer.old at (sent order words v) }
 {
+    // Stays a remainder and a quotient, as in `sent`: out of the four bytes each word would only be put together again.
     let lower = (v % 65536) as u16;
     if words == 1 {
         put_word(buffer, at, lower);
@@ -67,6 +68,7 @@ pub fn value_at(bytes: &[u8], at: usize, words: usize, order: Order) -> u32
         return first;
     }
     let second = u32::from(word_at(bytes, at + 2));
+    // Stays a product and a sum, as in the definition: the words are read by now, and one of them alone has no four bytes.
     match order {
         Order::UpperFirst => first * 65536 + second,
         Order::LowerFirst => second * 65536 + first,
