@@ -20,7 +20,7 @@ pub struct Item {
     pub start: u16,
     // How many addresses it takes.
     pub fills: u16,
-    // How many words it is sent in, 1 or 2.
+    // How many words it is sent in, 1 or 2. Stays a count, as the table of numbers has it.
     pub words: u16,
     // What it shows, as the module `quantity` numbers it.
     pub quantity: u16,
@@ -41,7 +41,7 @@ impl Item {
 // A table is flat: four numbers are one item, in the order of the fields of `Item`.
 pub const NUMBERS_PER_ITEM: usize = 4;
 
-// The items that a read asks for: `count` of them, from the index `first` on.
+// The items that a read asks for: `count` of them, from the index `first` on. Stays a struct: a Range is no Copy.
 #[derive(Clone, Copy, Debug, PartialEq, Eq)]
 pub struct Span {
     pub first: usize,

@@ -1,5 +1,5 @@
-// What an item shows, as a number, since the paper names one table of numbers: 64 x kind + which. The kinds are numbered from 1 in the order of paper 01's list of
-// readings. Each kind has 64 numbers, and its constant is the first of these.
+// What an item shows, as a number, since the paper names one table of numbers: 64 x kind + which. The kinds are numbered from 1 in the
+// order of paper 01's list of readings. Each kind has 64 numbers, and its constant is the first of these.
 pub const VOLTAGE: u16 = 64;
 
 pub const CURRENT: u16 = 64 * 2;

@@ -72,6 +72,7 @@ impl Display for Figure {
 }
 
 // What stands before the magnitude.
+// Stays beside `orders`' sign: a Display of `Signed` would not know the unit that stands with it.
 fn minus(number: Signed) -> &'static str {
     if number.negative { "-" } else { "" }
 }

@@ -75,8 +75,8 @@ pub fn value_at(bytes: &[u8], at: usize, words: usize, order: Order) -> u32
     }
 }
 
-// A signed number in one word, as two's complement: the lowest word of it in four. Sign and magnitude stay two arguments: a magnitude of a
-// word's width is asked, which `Signed` does not promise.
+// A signed number in one word, as two's complement: the lowest word of it in four. Sign and magnitude stay two arguments, here and
+// below: `Signed` stands on a floor above.
 pub fn twos_word(negative: bool, magnitude: u16) -> u16
     ensures { result ≡ twos 1 negative magnitude }
 {
