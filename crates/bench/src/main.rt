@@ -2,22 +2,42 @@
 // (paper 01, the program `bench`).
 #![tactic(auto)]
 
-ghost use Rattle.std.specs.Prelude.{◌≡◌, ◌≤◌, length, take};
+ghost use Rattle.std.specs.Prelude.{◌≡◌, ◌≤◌, length, take, IfOk};
 ghost use Rattle.transcript.specs.Transcript.{bench_text};
 
-use arrayvec::ArrayVec;
-use std::io::{self, Read, Write};
-
-// The bytes of input that are read.
-const INPUT_MOST: usize = 65_536;
+use std::io::{self, Read, Stdin, Write};
 
 fn main(rt: HostRuntime) -> io::Result<()> {
-    let mut input = ArrayVec::<u8, INPUT_MOST>::new();
-    // Stays a cast: a usize has no From to u64.
-    io::copy(&mut rt.stdin().take(INPUT_MOST as u64), &mut input)?;
+    let mut input = input_buffer();
+    let n = read_full(rt.stdin(), &mut input)?;
     let mut text = text_buffer();
-    let end = answer(input.as_slice(), &mut text);
+    let end = answer(&input[..n], &mut text);
     rt.stdout().write_all(&text[..end])
+}
+
+// Room for what is read: 65,536 bytes of input.
+// Stays spelled out, as in `text_buffer`.
+fn input_buffer() -> [u8; 65_536]
+    ensures { 65536 ≡ length result }
+{
+    [0; 65_536]
+}
+
+// Reads until the buffer is full or the input ends, and answers how many bytes it put at the buffer's start.
+// Stays a loop over reads into the whole rest of the buffer: `io::copy` reads 8,192 bytes at a time, and what a packet has beyond
+// them would be lost.
+fn read_full(mut input: Stdin, buffer: &mut [u8]) -> io::Result<usize>
+    ensures { IfOk result (λ n. n ≤ length buffer.new) }
+{
+    let mut filled = 0;
+    while filled < buffer.len() {
+        let n = input.read(&mut buffer[filled..])?;
+        if n == 0 {
+            break;
+        }
+        filled += n;
+    }
+    Ok(filled)
 }
 
 // Room for the text: 32 characters for each of 65,536 bytes of input.
