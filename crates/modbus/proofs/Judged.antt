@@ -1,21 +1,24 @@
 -- A read is judged by its length, its word number and the run: which of them decides.
-use mathlib.Core.Path.{◌≡◌, refl, sym, ◌∙◌}
+use mathlib.Core.Path.{◌≡◌, refl, sym, ap, ◌∙◌}
 use mathlib.Core.Logic.{◌↔◌, ◌⊎◌, inl, inr}
 use mathlib.Core.Bool.{Bool, true, false, ◌||◌, not, cond, false≢true}
 use mathlib.Core.List.{List}
 use Prim.Native.Nat.{ℕ, ◌+◌, ◌*◌, ◌≤◌, ◌<◌}
 use native.Mathlib.Omega.{arith}
 use lib.Dec.{T, ltb, eqb}
-use lib.ListN.{length}
+use lib.ListN.{length, take, drop}
 use borrow.Author.Tests.{ltb-false, eqb-true, eqb-false, eq-eqb}
 use Rattle.std.specs.Prelude.{Result, Ok, Err}
 use Rattle.refusal.specs.declared.ErrorCode.{ErrorCode}
 use Rattle.refusal.specs.declared.ErrorCode.TheVariants.{Function, Address, Data}
 use Rattle.directory.specs.declared.Span.{Span}
+use Rattle.directory.specs.Item.{items}
+use Rattle.directory.specs.Order.{every, narrow}
 use Rattle.directory.specs.Run.{run_in, run_items, words_of, span}
-use Rattle.directory.specs.Views.{View, passes}
+use Rattle.directory.specs.Views.{View, passes, view_of, Lent}
 use Rattle.directory.proofs.Errors.{no_run, data_sound, run_sound}
-use Rattle.directory.proofs.Views.{passes_ruled, passes_room}
+use Rattle.directory.proofs.Order.{every_run, ruled_every}
+use Rattle.directory.proofs.Views.{passes_ruled, passes_room, run_room, run_part, run_narrow}
 use Rattle.directory.proofs.Sends.{run_sends}
 use Rattle.directory.specs.Tenant.{for_tenant, leading, tenant_of}
 use Rattle.directory.proofs.Tenant.{tenant_passes, tenant_long, run_first, run_within}
@@ -127,6 +130,7 @@ module _ (v : View) (good : T (passes v)) (frame : List ℕ) where
 -- the items asked for stand among those seen, each sends one word or two, and all together the words asked, which a reply has room for
 pub record AskedItems (v : View) (frame : List ℕ) (asked : Span) : Type 0 where
   pub inside : asked.first + asked.count ≤ length v.seen
+  pub narrow : T (every narrow (run_items v.seen asked.first asked.count))
   pub long : length frame ≡ 8
   pub sends : words_of (run_items v.seen asked.first asked.count) ≡ word_number frame
   pub room : 5 + 2 * word_number frame ≤ 256
@@ -134,4 +138,33 @@ pub record AskedItems (v : View) (frame : List ℕ) (asked : Span) : Type 0 wher
 pub asked_items : (v : View) → T (passes v) → {frame : List ℕ} {asked : Span} → read_in v frame ≡ Ok asked → AskedItems v frame asked
 asked_items v good {asked = asked} e =
     let l = legal_read v good e in
-    record { inside = l.inside; long = l.long; sends = l.sends; room = omega (arith, l.most, passes_room v good) }
+    record {
+      inside = l.inside;
+      narrow = every_run narrow v.seen asked.first asked.count (ruled_every v.seen (passes_ruled v good));
+      long = l.long;
+      sends = l.sends;
+      room = omega (arith, l.most, passes_room v good);
+    }
+
+-- ---- over a table that is lent
+
+-- the part of the table that holds the items asked for; they send the words asked, which a reply has room for
+pub record AskedPart (t : List ℕ) (seen most : ℕ) (frame : List ℕ) (first count : ℕ) : Type 0 where
+  pub inside : 4 * (first + count) ≤ length t
+  pub holds : items (take (4 * count) (drop (4 * first) t)) ≡ run_items (view_of t seen most).seen first count
+  pub narrow : T (every narrow (items (take (4 * count) (drop (4 * first) t))))
+  pub long : length frame ≡ 8
+  pub sends : words_of (items (take (4 * count) (drop (4 * first) t))) ≡ word_number frame
+  pub room : 5 + 2 * word_number frame ≤ 256
+
+pub asked_part : (t : List ℕ) (seen most : ℕ) → Lent t seen most → {frame : List ℕ} {first count : ℕ} → read_in (view_of t seen most) frame ≡ Ok (span first count) → AskedPart t seen most frame first count
+asked_part t seen most lent {first = first} {count = count} e =
+    let a = asked_items (view_of t seen most) lent.good e in
+    record {
+      inside = run_room t seen most lent first count a.inside;
+      holds = run_part t seen most lent first count a.inside;
+      narrow = run_narrow t seen most lent first count a.inside;
+      long = a.long;
+      sends = ap words_of (run_part t seen most lent first count a.inside) ∙ a.sends;
+      room = a.room;
+    }
