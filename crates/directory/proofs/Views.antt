@@ -50,7 +50,11 @@ module _ (v : View) (h : T (passes v)) where
   pub passes_room : 5 + 2 * v.most ≤ 256
   passes_room = leb→le _ _ (right (leb 2 v.most) _ (right (tested v.seen) _ h))
 
--- ---- a run of a table that is lent
+-- ---- a table that is lent, and a run of it
+
+-- as many items are seen as may be read
+pub seen_length : (t : List ℕ) (seen most : ℕ) → Lent t seen most → seen ≡ length (view_of t seen most).seen
+seen_length t seen most lent = sym (view_length t seen lent.holds)
 
 pub seen_run : (its : List Item) (n first count : ℕ) → first + count ≤ n → run_items (take n its) first count ≡ run_items its first count
 seen_run its n zero count h = take-take count n its (omega (arith, h))

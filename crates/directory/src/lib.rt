@@ -50,7 +50,7 @@ pub struct Span {
 
 // What a read is judged by: a flat table of items, of which the first ones are seen, and the most words of one read. In contracts it is
 // the view that they make.
-#[derive(Drop)]
+#[derive(Clone, Drop)]
 pub struct Directory<'a> {
     numbers: &'a [u16],
     seen: usize,
@@ -78,6 +78,13 @@ impl<'a> Directory<'a> {
             seen,
             most,
         }
+    }
+
+    // How many items are seen.
+    pub fn len(&self) -> usize
+        ensures { result ≡ length self.now.seen }
+    {
+        self.seen
     }
 
     // The most words of one read.
@@ -114,7 +121,7 @@ impl<'a> Directory<'a> {
 }
 
 // Some items of a directory, one behind the other. In contracts they are their list.
-#[derive(Drop)]
+#[derive(Clone, Drop)]
 pub struct Items<'a> {
     numbers: &'a [u16],
 }
