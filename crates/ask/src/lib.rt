@@ -12,8 +12,9 @@ use collector::Nameplate;
 pub use exchange::{Exchange, Items, KIND_MARK, VALUE_MARK};
 pub use heard::{Heard, hear};
 use say::Bytes;
+use std::convert::AsSlice;
 use std::fmt::{self, Display};
-use std::io::{self, Stdout};
+use std::io::{self, Stdout, Write};
 
 // Any reply has room in it. Stays a number, not modbus' FRAME_MOST: the wrong program `room_of_255` changes it in this line.
 pub const REPLY_ROOM: usize = 256;
@@ -98,10 +99,16 @@ pub fn write(address: u8, word: u8, code: u8) -> [u8; 41]
     frame
 }
 
-// A frame by its name, and what it is answered with. Hands back the meter after it.
-pub fn send(out: Stdout, m: Meter, name: &str, frame: &[u8]) -> io::Result<Meter> {
+// A frame by its name, which is any bytes, and what it is answered with. Hands back the meter after it.
+pub fn send<N: AsSlice<u8> + Drop>(
+    mut out: Stdout,
+    m: Meter,
+    name: N,
+    frame: &[u8],
+) -> io::Result<Meter> {
     let mut buffer = [0u8; REPLY_ROOM];
     let heard = hear(m, frame, &mut buffer);
-    println!(out; "{name}, asked{}{heard}", Frame(frame))?;
+    out.write_all(name.as_slice())?;
+    println!(out; ", asked{}{heard}", Frame(frame))?;
     Ok(heard.meter)
 }
