@@ -3,7 +3,7 @@ ghost use Rattle.std.specs.Prelude.{◌≤◌, length, IfOk, IfSome};
 
 use ask::{Exchange, REPLY_ROOM};
 use board::Meter;
-use collector::{Nameplate, Quantity, Ratios, Refusal, WattHours};
+use collector::{Answer, Nameplate, Order, Quantity, Ratios, Refusal, WattHours};
 use say::Bytes;
 use std::io::{self, Stdout};
 
@@ -47,7 +47,8 @@ impl Feed {
             "  read as a count of {} in steps of {step} Wh, and a wrap of {wrap}",
             count.0
         )?;
-        self.load(collector::join(self.ratios(), count, wrap), u64::from(step))
+        let ratios = self.ratios();
+        self.load(collector::join(ratios, count, wrap), u64::from(step))
     }
 
     // Low and High of one reply, joined.
@@ -84,14 +85,24 @@ impl Feed {
     ) -> io::Result<Option<Exchange<'a>>>
         ensures { IfOk result (λ answer. IfSome answer (λ x. length x.reply.now ≤ 256)) }
     {
-        let heard = ask::hear(self.meter, request, buffer);
-        println!(self.out; "  asked{}{heard}", Bytes(request))?;
-        let Ok(Some(reply)) = heard.reply else {
-            return Ok(None);
+        let Feed { out, meter, .. } = self;
+        let handled = board::handle(meter, request, buffer);
+        let reply = match handled.reply {
+            Ok(Some(n)) => &buffer[..n],
+            Ok(None) => {
+                println!(out; "  asked{}, silent", Bytes(request))?;
+                return Ok(None);
+            }
+            Err(reason) => {
+                println!(out; "  asked{}, {reason}", Bytes(request))?;
+                return Ok(None);
+            }
         };
+        println!(out; "  asked{}, answered{}", Bytes(request), Bytes(reply))?;
+        let ratios = self.ratios();
         let plate = Nameplate {
-            ratios: self.ratios(),
-            ..ask::PLATE
+            ratios,
+            order: Order::UpperFirst,
         };
         Ok(Some(Exchange {
             request,
@@ -102,13 +113,18 @@ impl Feed {
 
     // The collector reads one item of a reply. An error code or a refusal is told here.
     fn read(self, exchange: Exchange<'_>, index: usize) -> io::Result<Option<Quantity>> {
-        match exchange.item(index) {
-            Ok(quantity) => Ok(Some(quantity)),
-            Err(unread) => {
-                println!(self.out; "{unread}")?;
-                Ok(None)
-            }
+        let Exchange {
+            request,
+            reply,
+            plate,
+        } = exchange;
+        let answer = collector::read(request, reply, plate, index);
+        match answer {
+            Answer::Reading(quantity) => return Ok(Some(quantity)),
+            Answer::Error(code) => println!(self.out; "{code}")?,
+            Answer::Refused(reason) => println!(self.out; "{reason}")?,
         }
+        Ok(None)
     }
 
     fn ratios(self) -> Ratios {

@@ -1,14 +1,13 @@
-// One energy on its way from samples to the load on a feed. The samples and the joins are called as a board and a collector call us,
-// a frame and a reading through `ask`. A new meter takes six minutes of samples; then its +Ea is polled in each of its three places,
-// read, joined, and held against the plain sum of the samples. Four meters of large transformers follow, where the table of steps
-// ends.
+// One energy on its way from samples to the load on a feed: how a board and a collector call us. A new meter takes six minutes of
+// samples; then its +Ea is polled in each of its three places, read, joined, and held against the plain sum of the samples. Four
+// meters of large transformers follow, where the table of steps ends.
 #![tactic(auto)]
 
 mod feed;
 
 ghost use Rattle.std.specs.Prelude.{◌≤◌, IfOk};
 
-use board::{Answered, Given, Meter, Powers, Sample};
+use board::{Answered, Given, Meter, Order, Powers, Sample};
 use collector::Ratios;
 use feed::Feed;
 use std::io::{self, Stdout};
@@ -53,12 +52,14 @@ fn from_samples(out: Stdout) -> io::Result<()> {
     feed.three_places()
 }
 
-// A new meter of address 1.
-// Stays beside the other programs' new meters: each names what its own examples change of `Given`.
+// A new meter of address 1. Paper 01's meters send the upper word first.
+// Stays spelled out, as the README shows the call.
 fn made(ratios: Ratios) -> Answered {
     Meter::of(Given {
+        address: 1,
+        second: Given::NO_SECOND,
         ratios,
-        ..ask::GIVEN
+        order: Order::UpperFirst,
     })
 }
 
