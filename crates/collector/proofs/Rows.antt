@@ -17,6 +17,7 @@ use Rattle.directory.specs.Item.{none}
 use Rattle.directory.specs.Order.{every, shaped}
 use Rattle.directory.specs.Run.{run_items, words_of}
 use Rattle.directory.specs.Views.{View}
+use Rattle.own.specs.Own.{own}
 use Rattle.reading.specs.declared.Answer.{Answer}
 use Rattle.directory.proofs.Order.{every_at}
 use Rattle.directory.proofs.Shapes.{shape_narrow}
@@ -27,7 +28,7 @@ use Rattle.replies.specs.declared.Unread.TheVariants.{Refused}
 use Rattle.collector.specs.declared.Nameplate.{Nameplate}
 use Rattle.replies.specs.Judged.{judged_in}
 use Rattle.collector.specs.Collector.{item_of, on_data, collector_in}
-use Rattle.collector.specs.Whole.{in_turn, any_thirteen, readings_in, Rows, kept_by, filled_by, on_reply, whole_in, Filled}
+use Rattle.collector.specs.Whole.{in_turn, any_thirteen, readings_in, Rows, kept_by, filled_by, on_reply, whole_in, whole_of, Filled}
 use Rattle.collector.proofs.Places.{run_length}
 use Rattle.collector.proofs.Turns.{turns_same}
 use Rattle.directory.specs.declared.Span.{Span}
@@ -93,6 +94,10 @@ module _ (v : View) (request reply : List ℕ) (plate : Nameplate) (values kinds
         whole_data
         ∙ ap (λ (l : List Answer). filled_by l values kinds) (turns_same asked.count (collector_in v request reply plate) (item_of plate.order (t_of r) (run_items v.seen asked.first asked.count) reply) (λ i b. each_item i))
         ∙ ap (λ (n : ℕ). filled_by (in_turn n (item_of plate.order (t_of r) (run_items v.seen asked.first asked.count) reply)) values kinds) (sym (run_length v.seen asked.first asked.count inside))
+
+-- by paper 01's own directory, what is not read leaves both rows
+pub unread_kept : (request reply : List ℕ) (plate : Nameplate) (values kinds : List ℕ) (why : Unread) → judged_in own request reply plate.ratios ≡ Err why → Filled (whole_of request reply plate values kinds) (Err why) values kinds
+unread_kept request reply plate values kinds why h = allowed (sym (whole_unread own request reply plate values kinds why h))
 
 -- ---- an item sends a word at the least
 
