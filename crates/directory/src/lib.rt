@@ -81,6 +81,7 @@ impl<'a> Directory<'a> {
     }
 
     // How many items are seen.
+    #[tactic(auto, using(crate::proofs::Views::seen_length))]
     pub fn len(&self) -> usize
         ensures { result ≡ length self.now.seen }
     {
