@@ -103,6 +103,11 @@ ends_line frame c h = cases (cases_lt (length frame) 2)
         false_from_ne_true _ (λ t. omega (arith, long t, length-drop (length frame - 2) frame)) ∙ ends_in_none frame c short
     cases (inr long) = simp (le-leb 2 (length frame) long, line_bytes c h, ending frame long, and-true, eqb_swap) refl
 
+-- of two bytes or more the last two are compared
+pub ends_bytes : (frame : List ℕ) (c : ℕ) → 2 ≤ length frame → ends_in frame c ≡ (eqb (get_or frame (length frame - 2) 0) (c % 256) && eqb (get_or frame (length frame - 1) 0) (c / 256))
+unfolding ends_in
+ends_bytes frame c h = simp (le-leb 2 (length frame) h)
+
 -- what the two tests of bytes say together
 agree : (a x b y : ℕ) → (eqb a x && eqb b y) ≡ true → (a ≡ x) × (b ≡ y)
 agree a x b y t =

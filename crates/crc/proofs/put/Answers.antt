@@ -3,6 +3,7 @@ use Rattle.std.proofs.Common.{◌≡◌, sym, ap, ◌∙◌, true, List, ◌++�
 use lib.ListN.{length, take, drop}
 use lib.Seq.{sets-eq, drop-drop}
 use borrow.Author.Tests.{le-leb}
+use Rattle.std.specs.Int.{to_le_bytes, w16}
 use Rattle.crc.specs.Crc.{crc_of, on_line, Put}
 use Rattle.crc.proofs.Laws.{line_bytes}
 use Rattle.crc.proofs.put.Goals as goal
@@ -16,4 +17,5 @@ pub returns : goal.returns
 returns c =
     let parts = c.in-Some.ensures.cases in
     let r = c.of.result in
-    room _ c.in-Some.bytes.now c.in-Some.rest.now c.to_le_bytes.result c.args.n _ refl (omega (arith, parts, c.in-Some-first_chunk_mut.ensures.variant.0 refl)) parts.2 parts.3 (c.to_le_bytes.ensures ∙ line_bytes r c.of.type_inv ∙ ap on_line c.of.ensures)
+    rw c.to_le_bytes.ensures
+    (room _ c.in-Some.bytes.now c.in-Some.rest.now (to_le_bytes w16 r) c.args.n _ refl (omega (arith, parts, c.in-Some-first_chunk_mut.ensures.variant.0 refl)) parts.2 parts.3 (line_bytes r c.of.type_inv ∙ ap on_line c.of.ensures))
