@@ -84,6 +84,7 @@ pub fn twos_word(negative: bool, magnitude: u16) -> u16
 }
 
 // A signed number in two words, as two's complement: the two lowest words of it in four.
+#[tactic(auto, using(crate::proofs::Signs::lowest_long))]
 pub fn twos_long(negative: bool, magnitude: u32) -> u32
     ensures { result ≡ twos 2 negative magnitude }
 {
