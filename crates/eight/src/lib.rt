@@ -21,6 +21,7 @@ pub fn of(bytes: &[u8]) -> u16
 }
 
 // Whether a frame's last two bytes are its CRC, low byte first.
+#[tactic(auto, using(crc::proofs::Laws::short_broken, crc::proofs::Laws::ends_intact))]
 pub fn intact(frame: &[u8]) -> bool
     ensures { result ≡ intact frame.now }
 {
