@@ -2,8 +2,9 @@
 // meter does with a frame"). Every call that refuses anything gives its reason by one of these names.
 #![tactic(auto)]
 
-ghost use Rattle.std.specs.Prelude.{◌≡◌};
+ghost use Rattle.std.specs.Prelude.{◌≡◌, Some};
 ghost use Rattle.refusal.specs.Numbers.{refusal_number, error_number, code_named};
+ghost use Rattle.refusal.specs.Words.{refusal_text, error_text, unknown_code_text};
 
 use std::error::Error;
 use std::fmt;
@@ -54,6 +55,8 @@ impl Refusal {
 }
 
 impl fmt::Display for Refusal {
+    ghost output = { λ reason. Some (refusal_text reason) };
+
     fn fmt<W: fmt::Write>(&self, f: &mut fmt::Formatter<W>) -> fmt::Result {
         write!(f, "refused {}, ", self.number())?;
         f.write_str(match self {
@@ -119,6 +122,8 @@ impl TryFrom<u8> for ErrorCode {
 }
 
 impl fmt::Display for ErrorCode {
+    ghost output = { λ code. Some (error_text code) };
+
     fn fmt<W: fmt::Write>(&self, f: &mut fmt::Formatter<W>) -> fmt::Result {
         write!(f, "error {:02}, ", self.number())?;
         f.write_str(match self {
@@ -130,6 +135,8 @@ impl fmt::Display for ErrorCode {
 }
 
 impl fmt::Display for UnknownCode {
+    ghost output = { λ unknown. Some (unknown_code_text unknown) };
+
     fn fmt<W: fmt::Write>(&self, f: &mut fmt::Formatter<W>) -> fmt::Result {
         write!(f, "no error has code {:02}", self.0)
     }

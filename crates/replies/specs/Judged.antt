@@ -5,6 +5,7 @@ use Rattle.refusal.specs.declared.Refusal.TheVariants.{RatioOutOfLimits, NotARea
 use Rattle.refusal.specs.declared.ErrorCode.{ErrorCode}
 use Rattle.refusal.specs.declared.UnknownCode.{UnknownCode}
 use Rattle.refusal.specs.Numbers.{code_named}
+use Rattle.refusal.specs.Words.{refusal_text, error_text}
 use Rattle.crc.specs.Crc.{intact}
 use Rattle.ratio.specs.declared.Ratios.{Ratios}
 use Rattle.ratio.specs.Ratios.{ratios_ok}
@@ -21,6 +22,11 @@ use Rattle.replies.specs.declared.Unread.TheVariants.{Error, Refused}
 abbrev pub unread : Unread → Answer
 unread (Error code) = answer.Error code
 unread (Refused reason) = answer.Refused reason
+
+-- and what is printed there: that error code or that refusal
+abbrev pub unread_text : Unread → List ℕ
+unread_text (Error code) = error_text code
+unread_text (Refused reason) = refusal_text reason
 
 -- a read that a meter of that own address, 1 to 255, does not keep silent on
 unfoldable pub heard : List ℕ → Bool

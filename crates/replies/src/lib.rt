@@ -58,6 +58,11 @@ impl From<Unread> for Answer {
 }
 
 impl fmt::Display for Unread {
+    ghost use Rattle.std.specs.Prelude.{Some};
+    ghost use Rattle.replies.specs.Judged.{unread_text};
+
+    ghost output = { λ why. Some (unread_text why) };
+
     fn fmt<W: fmt::Write>(&self, f: &mut fmt::Formatter<W>) -> fmt::Result {
         match self {
             Unread::Error(code) => write!(f, "{code}"),
