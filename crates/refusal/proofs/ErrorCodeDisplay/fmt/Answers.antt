@@ -1,3 +1,4 @@
+-- A code is printed as its number in two digits and its words, of which each arm has its own.
 use Rattle.std.proofs.Common.{◌≡◌, ℕ, List, ◌++◌, codes, ap, rules}
 use Rattle.std.specs.Fmt.{styled_decimal}
 use Rattle.std.proofs.Output.{has_written_append, has_written_of_eq}

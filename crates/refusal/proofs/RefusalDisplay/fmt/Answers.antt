@@ -1,3 +1,4 @@
+-- A refusal is printed as its number and its row's words, of which each arm has its own.
 use Rattle.std.proofs.Common.{◌≡◌, refl, rules}
 use Rattle.std.proofs.Output.{has_written_append, has_written_of_eq}
 use Rattle.refusal.specs.Words.{refusal_words}

@@ -1,3 +1,4 @@
+-- A number that is no code is printed in two digits at least.
 use Rattle.std.proofs.Common.{◌≡◌, ℕ, List, ◌++◌, codes, ap}
 use Rattle.std.specs.Fmt.{styled_decimal}
 use Rattle.std.proofs.Output.{has_written_of_eq}
