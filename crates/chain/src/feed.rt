@@ -77,7 +77,7 @@ impl Feed {
     }
 
     // The board's answer to a request, if there is one. A read leaves the meter as it is, so the one handed back is not kept.
-    // Stays spelled out, as in other programs: each prints something else of the frame and the reply.
+    // Stays spelled out, as the README shows the call; other programs go through `ask::hear`.
     fn poll<'a>(
         self,
         request: &'a [u8],
@@ -112,6 +112,7 @@ impl Feed {
     }
 
     // The collector reads one item of a reply. An error code or a refusal is told here.
+    // Stays a call of `collector::read`, no `Exchange::item`, as the README shows it.
     fn read(self, exchange: Exchange<'_>, index: usize) -> io::Result<Option<Quantity>> {
         let Exchange {
             request,

@@ -21,6 +21,7 @@ const WORDS_MOST: usize = 125;
 // Reads every item of a reply, and answers how many there are: from cell 0 on, `values` gets what each reads as (`Quantity::cell`) and
 // `kinds` the number of its kind (`Quantity::kind`). Only where all items are read is a cell written.
 // Request, reply and plate stay three arguments: the papers give them so, here and to `read`.
+// The lemma is for the right twin of a wrong program.
 #[tactic(auto, using(crate::proofs::Rows::unread_kept))]
 pub fn read_whole(
     request: &[u8],

@@ -44,6 +44,7 @@ pub fn intact_by<F: Fn(&[u8]) -> u16>(frame: &[u8], of: F) -> bool
 }
 
 // Whether a frame's last two bytes are this CRC, low byte first.
+// The lemma is for the right twin of a wrong program.
 #[tactic(auto, using(crate::proofs::Laws::ends_bytes))]
 pub fn ends_in(frame: &[u8], crc: u16) -> bool
     ensures { result ≡ ends_in frame.now crc }

@@ -52,7 +52,7 @@ module _ (v : View) (h : T (passes v)) where
 
 -- ---- a table that is lent, and a run of it
 
--- as many items are seen as may be read
+-- a view's items are as many as are seen of the table
 pub seen_length : (t : List ℕ) (seen most : ℕ) → Lent t seen most → seen ≡ length (view_of t seen most).seen
 seen_length t seen most lent = sym (view_length t seen lent.holds)
 

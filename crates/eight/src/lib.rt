@@ -12,7 +12,7 @@ ghost use Rattle.crc.specs.Crc.{crc_from, crc_of, intact};
 ghost use Rattle.eight.specs.AtOnce.{run, folded, spread, narrowed, parity, settled};
 
 // The CRC of all bytes of a slice: eight at once while there are eight, then byte by byte.
-// It stays a call, as docs/COST.md counts it: it is long enough for the call not to matter.
+// It stays a function that is called, as docs/COST.md counts it.
 #[inline(never)]
 pub fn of(bytes: &[u8]) -> u16
     ensures { result ≡ crc_of bytes.now }
@@ -23,6 +23,7 @@ pub fn of(bytes: &[u8]) -> u16
 }
 
 // Whether a frame's last two bytes are its CRC, low byte first.
+// The lemmas are for the right twins of its wrong programs.
 #[tactic(auto, using(crc::proofs::Laws::short_broken, crc::proofs::Laws::ends_intact))]
 pub fn intact(frame: &[u8]) -> bool
     ensures { result ≡ intact frame.now }

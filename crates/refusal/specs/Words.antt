@@ -8,7 +8,7 @@ use Rattle.refusal.specs.declared.ErrorCode.TheVariants.{Function, Address, Data
 use Rattle.refusal.specs.declared.UnknownCode.{UnknownCode}
 use Rattle.refusal.specs.Numbers.{refusal_number, error_number}
 
--- the rows of the refusal table, shortened, in their order
+-- the rows of the refusal table, shortened, in their order, and paper 02's behind them
 abbrev pub refusal_words : Refusal → List ℕ
 refusal_words MeterOutOfLimits = codes "meter record out of limits"
 refusal_words BufferShort = codes "reply buffer under 256 bytes"
